@@ -1,0 +1,140 @@
+// The arctangent of a pair: the angle from the x axis to the point (x, y), from -PI to PI.
+//
+// The parts 1/3, 1/5, .. 1/31 are written as the quotients that a rounded division gives; the proof of
+// `arc_series` computes each division anew. A later request gives the answer another form, so callers
+// use `arctangent` alone.
+ghost use mathlib.Core.Path.{_≡_};
+ghost use Rattle.angle.specs.Arc.{odds, oddNumbers, base, inner, flat, quotient, smaller, greater, steep, mirrored, turned, arctan};
+
+const HALF: f64 = 1.5707963267948966;
+
+const QUARTER: f64 = 0.7853981633974483;
+
+const BOUND: f64 = 0.41421356237309503;
+
+// The arctangent of (y, x); NaN where either is NaN.
+pub fn arctangent(y: f64, x: f64) -> f64
+    ensures { λ a. ⌜ a ≡ arctan y x ⌝ }
+{
+    if y != y {
+        return 0.0 / 0.0;
+    }
+    if x != x {
+        return 0.0 / 0.0;
+    }
+    turn_to(
+        y,
+        x,
+        first_quarter(
+            number::kinds::magnitude_f64(y),
+            number::kinds::magnitude_f64(x),
+        ),
+    )
+}
+
+// From two magnitudes, the angle in the first quarter.
+fn first_quarter(y: f64, x: f64) -> f64
+    ensures { λ a. ⌜ a ≡ steep y x ⌝ }
+{
+    let a = flat_angle(divided(smaller_of(y, x), greater_of(y, x)));
+    if y > x {
+        return HALF - a;
+    }
+    a
+}
+
+// The angle whose tangent is q, from 0 to 1.
+fn flat_angle(q: f64) -> f64
+    ensures { λ a. ⌜ a ≡ flat q ⌝ }
+{
+    let u = inner_of(q);
+    base_of(q) + u * arc_series(u * u)
+}
+
+fn base_of(q: f64) -> f64
+    ensures { λ a. ⌜ a ≡ base q ⌝ }
+{
+    if q > BOUND {
+        return QUARTER;
+    }
+    0.0
+}
+
+fn inner_of(q: f64) -> f64
+    ensures { λ a. ⌜ a ≡ inner q ⌝ }
+{
+    if q > BOUND {
+        return (q - 1.0) / (q + 1.0);
+    }
+    q
+}
+
+fn arc_series(w: f64) -> f64
+    ensures { λ t. ⌜ t ≡ odds w oddNumbers ⌝ }
+{
+    let t = 0.034482758620689655 - w * 0.03225806451612903;
+    let t = 0.037037037037037035 - w * t;
+    let t = 0.04 - w * t;
+    let t = 0.043478260869565216 - w * t;
+    let t = 0.047619047619047616 - w * t;
+    let t = 0.05263157894736842 - w * t;
+    let t = 0.058823529411764705 - w * t;
+    let t = 0.06666666666666667 - w * t;
+    let t = 0.07692307692307693 - w * t;
+    let t = 0.09090909090909091 - w * t;
+    let t = 0.1111111111111111 - w * t;
+    let t = 0.14285714285714285 - w * t;
+    let t = 0.2 - w * t;
+    let t = 0.3333333333333333 - w * t;
+    1.0 - w * t
+}
+
+fn divided(small: f64, great: f64) -> f64
+    ensures { λ q. ⌜ q ≡ quotient small great ⌝ }
+{
+    if great == 0.0 {
+        return 0.0;
+    }
+    if small == 1.0 / 0.0 {
+        return 1.0;
+    }
+    small / great
+}
+
+fn smaller_of(y: f64, x: f64) -> f64
+    ensures { λ a. ⌜ a ≡ smaller y x ⌝ }
+{
+    if y > x {
+        return x;
+    }
+    y
+}
+
+fn greater_of(y: f64, x: f64) -> f64
+    ensures { λ a. ⌜ a ≡ greater y x ⌝ }
+{
+    if y > x {
+        return y;
+    }
+    x
+}
+
+// From the first quarter to the one where the point lies, by the sign bits of x and of y.
+fn turn_to(y: f64, x: f64, a: f64) -> f64
+    ensures { λ b. ⌜ b ≡ turned y x a ⌝ }
+{
+    let b = mirror(x, a);
+    if number::kinds::negative_f64(y) {
+        return -b;
+    }
+    b
+}
+
+fn mirror(x: f64, a: f64) -> f64
+    ensures { λ b. ⌜ b ≡ mirrored x a ⌝ }
+{
+    if number::kinds::negative_f64(x) {
+        return crate::turn::PI - a;
+    }
+    a
+}

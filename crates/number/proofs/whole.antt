@@ -1,0 +1,2 @@
+-- What the proof of the whole part uses.
+mod Range

@@ -1,0 +1,24 @@
+#!/usr/bin/env bash
+# The gate. Layout, then everything proved from nothing with the must-fail edits and the programs, then the
+# comparison with Rust where rustc is at hand. The last line is that of `rt ci`: N passed, 0 failed.
+set -euo pipefail
+cd "$(dirname "$0")/.."
+tests/need.sh rt
+
+rt fmt --check
+
+log=$(mktemp)
+trap 'rm -f "$log"' EXIT
+rt ci | tee "$log"
+verdict=$(tail -n 1 "$log")
+case "$verdict" in
+  *" passed, 0 failed") ;;
+  *) echo "gate: rt ci did not end with 'N passed, 0 failed'" >&2; exit 1 ;;
+esac
+
+if command -v rustc >/dev/null 2>&1; then
+  make --no-print-directory compare
+else
+  echo "gate: rustc is not on the PATH, so the comparison with Rust was skipped"
+fi
+echo "$verdict"
