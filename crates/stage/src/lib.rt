@@ -1,0 +1,27 @@
+// What the stages share: the numbers of a refusal, the rules on settings, and what a step is made of.
+//
+// Document 01, "Five numbers", "Settings" and "Struck samples". The definitions stand in specs/, one
+// notion a file: Refusal, Length, Settings, Floats are those of the functions here; Run, Blocks, Drop
+// and Layout say what a stage gives over a list of samples, and have no code of their own. Cases.antt
+// has worked values. The laws that every stage cites stand in proofs/, and proofs/Lib.antt lists them.
+// No function here has a `requires`.
+mod numbers;
+mod settings;
+mod step;
+
+pub use numbers::LENGTH;
+pub use numbers::LIMIT;
+pub use numbers::LONGEST;
+pub use numbers::NONE;
+pub use numbers::ROOM;
+pub use numbers::SETTING;
+pub use numbers::STATE;
+pub use numbers::even;
+pub use numbers::refusal;
+pub use numbers::within;
+pub use settings::in_unit;
+pub use settings::not_negative;
+pub use settings::positive;
+pub use settings::positive_f64;
+pub use step::blend;
+pub use step::both_finite;
