@@ -1,6 +1,7 @@
 #!/usr/bin/env bash
 # The gate. Layout, then everything proved from nothing with the must-fail edits and the programs, then the
-# comparison with Rust where rustc is at hand. The last line is that of `rt ci`: N passed, 0 failed.
+# README's example, then the comparison with Rust where rustc is at hand. The last line is that of `rt ci`:
+# N passed, 0 failed.
 set -euo pipefail
 cd "$(dirname "$0")/.."
 tests/need.sh rt
@@ -16,6 +17,8 @@ case "$verdict" in
   *) echo "gate: rt ci did not end with 'N passed, 0 failed'" >&2; exit 1 ;;
 esac
 
+make --no-print-directory lib
+tests/readme.sh
 if command -v rustc >/dev/null 2>&1; then
   make --no-print-directory compare
 else

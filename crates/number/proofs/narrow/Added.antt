@@ -13,8 +13,8 @@ use lib.Ieee.Exact.{HasValue, odd-sign, units-val}
 use lib.Ieee.Nearest.{closest}
 use Rattle.number.specs.Narrow.{narrowed}
 use Rattle.number.proofs.Pack.{packed, units-fits, split}
-use Rattle.number.proofs.Adding.{narrowed-by-adding}
-use Rattle.number.proofs.narrow.Fields.{subnormal, quarter, digits-lt, digits-ge, one-below, wide, kept-le, kept-ge, low-le, at-normal, at-low, at-zero}
+use Rattle.number.proofs.Adding.{kept-le, narrowed-by-adding}
+use Rattle.number.proofs.narrow.Fields.{subnormal, quarter, digits-lt, digits-ge, one-below, wide, kept-ge, low-le, at-normal, at-low, at-zero}
 use Rattle.number.proofs.narrow.Shift.{half-even}
 use Rattle.number.proofs.narrow.Word.{word, of-word, normal-value, field-lt}
 

@@ -2,20 +2,21 @@
 use mathlib.Core.Path.{_≡_, refl, sym, ap, _∙_, subst}
 use mathlib.Core.Logic.{inl, inr}
 use Prim.Native.Nat.{ℕ, zero, suc, _+_, _-_, _*_, _/_, _%_, _^_, _≤_, _<_, compare}
-use native.Mathlib.Nat.{le-trans, le-of-eq, lt-of-lt-of-le, zero-add, one-mul, zero-lt-suc, eq-or-lt-of-le, le-of-suc-le-suc, mul-le-mul-left, mul-le-mul-right, le-div-iff-mul-le, div-lt-iff-lt-mul}
+use native.Mathlib.Nat.{le-trans, le-of-eq, lt-of-lt-of-le, zero-add, one-mul, zero-lt-suc, eq-or-lt-of-le, le-of-suc-le-suc, mul-le-mul-left, mul-le-mul-right, le-div-iff-mul-le}
 use native.Mathlib.Omega.{arith}
 use mathlib.Core.Bool.{Bool, not, _&&_, cond}
 use lib.Dec.{T, eqb, eqb·suc-zero, eqb→eq, not-T, lit≤, lit<}
 use lib.Pow.{pow-add, pow-pos, pow-mono}
 use lib.Ieee.{Float, nan, inf, fin, binary32, binary64, up, down, odd, units, round, ofFields, ofBits}
 use lib.Ieee.Bits.{cond-no}
-use lib.Ieee.Fits.{down-pos, nearest-le}
+use lib.Ieee.Fits.{down-pos}
 use lib.Ieee.Exact.{HasValue, odd-sign}
 use lib.Ieee.Nearest.{closest, closest-mono, nearest-ge}
 use lib.Ieee.Scale.{round-same}
 use Rattle.number.specs.Narrow.{narrowed}
 use Rattle.number.proofs.Pack.{packed, inf-bits, units-over}
 use Rattle.number.proofs.Dyadic.{round-dyadic}
+use Rattle.number.proofs.Adding.{kept-le}
 
 -- ---- narrowing sees only the value
 narrowed-val : (v : Float) (s : Bool) (a c : ℕ) → 0 < c → HasValue v s a c → narrowed v ≡ round binary32 s a c
@@ -71,9 +72,6 @@ rounds-normal s g t H l u =
 pub kept-ge : (m : ℕ) → 4503599627370496 ≤ m → 8388608 ≤ closest m (2 ^ 29)
 kept-ge m h = le-trans (le-div-iff-mul-le (pow-pos 29) .1 h) (nearest-ge (m / 2 ^ 29) (compare (m % 2 ^ 29 * 2) (2 ^ 29)))
 
-pub kept-le : (m h : ℕ) → m < 2 ^ 24 * 2 ^ h → closest m (2 ^ h) ≤ 16777216
-kept-le m h l = le-trans (nearest-le (m / 2 ^ h) (compare (m % 2 ^ h * 2) (2 ^ h))) (div-lt-iff-lt-mul (pow-pos h) .1 l)
-
 step-lt : (g : ℕ) → 897 ≤ g → g < 1151 → suc (g - 897) ≤ 254
 step-lt g l u = omega arith
 
@@ -119,7 +117,7 @@ rounds-low s g t H l u =
     ∙ round-dyadic binary32 s (t + 4503599627370496) (g - 1) 1074 0 (926 - g) (exp-low g l u) (lt-of-lt-of-le (digits-lt t H) (pow-mono (wide g u))) (inl refl)
 
 pub low-le : (g t : ℕ) → t < 4503599627370496 → g < 897 → closest (t + 4503599627370496) (2 ^ (926 - g)) ≤ 16777216
-low-le g t H u = kept-le (t + 4503599627370496) (926 - g) (lt-of-lt-of-le (digits-lt t H) (le-trans (pow-mono (wide g u)) (le-of-eq (pow-add 2 24 (926 - g)))))
+low-le g t H u = kept-le (t + 4503599627370496) (926 - g) (lt-of-lt-of-le (digits-lt t H) (pow-mono (wide g u)))
 
 pub at-low : (s : Bool) (g t : ℕ) → t < 4503599627370496 → 0 < g → g < 897 → ofBits binary32 (cond s 2147483648 0 + closest (t + 4503599627370496) (2 ^ (926 - g))) ≡ narrowed (ofFields binary64 s g t)
 at-low s g t H l u =
