@@ -1,6 +1,6 @@
 # Threshlantern: what can be done from here. `make help` prints the lines below that have two hashes.
 .DEFAULT_GOAL := help
-.PHONY: help test lib compare fmt clean
+.PHONY: help test lib compare plants fmt clean
 
 help: ## what there is
 	@echo 'Threshlantern: a proved signal path. The commands:'
@@ -13,8 +13,11 @@ lib: ## target/staticlib/libthreshlantern.a, the library for C and Rust
 	@tests/need.sh rt
 	@rt staticlib threshlantern
 
-compare: lib ## hold the library against Rust's own on millions of inputs (ARGS='--seed 7' repeats a run)
+compare: lib ## hold the library against Rust's own and the Rust original on millions of inputs (ARGS='--seed 7' repeats a run)
 	@oracle/run.sh $(ARGS)
+
+plants: lib ## see that the comparison finds every kind of wrong answer that is planted in it
+	@oracle/plants.sh $(ARGS)
 
 fmt: ## lay the Rattle sources and proofs out as the gate wants them
 	@tests/need.sh rt

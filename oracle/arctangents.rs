@@ -2,10 +2,11 @@
 
 use crate::library::{tl_arctangent, tl_arctangent_f32};
 use crate::patterns::{any_f32, any_f64, beside_f32, beside_f64, edges_f32, edges_f64, power};
-use crate::report::{steps_apart, Bound, Check, Report};
+use crate::plan::Plan;
+use crate::report::{Bound, Check, Report};
 use crate::rng::Rng;
 use crate::steps;
-use crate::Plan;
+use crate::value::steps_apart;
 
 /// How far the paper lets the arctangent be from the Rust library's.
 const NEAR: Bound = Bound::Steps(2);

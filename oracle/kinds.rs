@@ -4,9 +4,9 @@ use crate::library::{
     tl_finite_f32, tl_finite_f64, tl_magnitude_f32, tl_magnitude_f64, tl_whole, tl_widen,
 };
 use crate::patterns::{any_f32, any_f64, beside_f32, edges_f32, edges_f64, power};
+use crate::plan::Plan;
 use crate::report::{Bound, Check, Report};
 use crate::rng::Rng;
-use crate::Plan;
 
 struct Singles {
     magnitude: Check,

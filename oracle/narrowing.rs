@@ -2,9 +2,9 @@
 
 use crate::library::{tl_narrow, tl_narrow_alone};
 use crate::patterns::{any_f64, beside_f64, edges_f64, power};
+use crate::plan::Plan;
 use crate::report::{Bound, Check, Report};
 use crate::rng::Rng;
-use crate::Plan;
 
 /// The two share their contract and not their code, so each is a check of its own over the same
 /// inputs.

@@ -117,6 +117,21 @@ pub fn edges_f64() -> Vec<f64> {
     out
 }
 
+/// What lent places hold before a call: a pattern for each, told apart by its place, and none that
+/// a stage is likely to write. NaNs of both kinds are among them, as one that stays keeps its bits.
+pub fn marks(len: usize, from: usize) -> Vec<f32> {
+    let mark = |k: usize| {
+        let place = (k / 4) as u32 & 0x001F_FFFF;
+        f32::from_bits(match k % 4 {
+            0 => 0x7FC0_0000 | place,
+            1 => 0xFFA0_0000 | place,
+            2 => 0x8040_0000 | place,
+            _ => 0x4B00_0000 | place,
+        })
+    };
+    (from..from + len).map(mark).collect()
+}
+
 /// A random f32: any bits, a subnormal of any size, or one near a power of two.
 pub fn any_f32(rng: &mut Rng) -> f32 {
     let sign = (rng.next() as u32) & 0x8000_0000;

@@ -2,9 +2,9 @@
 
 use crate::library::tl_sqrt;
 use crate::patterns::{any_f32, beside_f32, edges_f32, power};
+use crate::plan::Plan;
 use crate::report::{Bound, Check, Report};
 use crate::rng::Rng;
-use crate::Plan;
 
 pub fn compare(plan: &Plan, report: &mut Report) {
     let mut check = Check::new("square root, edges and squares", Bound::Exact);

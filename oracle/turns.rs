@@ -2,10 +2,10 @@
 
 use crate::library::{tl_cosine, tl_cosine_f32, tl_sine, tl_sine_f32};
 use crate::patterns::{any_f32, any_f64, beside_f32, beside_f64, edges_f32, edges_f64, power};
+use crate::plan::Plan;
 use crate::report::{Bound, Check, Report};
 use crate::rng::Rng;
 use crate::steps;
-use crate::Plan;
 
 /// How far the paper lets sine and cosine be from the Rust library's, and up to which |x|. Beyond
 /// it the two part: the steps reduce by the f64 TAU, the library by the true turn.

@@ -1,7 +1,7 @@
 #!/usr/bin/env bash
 # The gate. Layout, then everything proved from nothing with the must-fail edits and the programs, then the
-# README's example, then the comparison with Rust where rustc is at hand. The last line is that of `rt ci`:
-# N passed, 0 failed.
+# README's example, then the comparison with Rust where rustc is at hand, and planted errors that it must find.
+# The last line is that of `rt ci`: N passed, 0 failed.
 set -euo pipefail
 cd "$(dirname "$0")/.."
 tests/need.sh rt
@@ -21,6 +21,7 @@ make --no-print-directory lib
 tests/readme.sh
 if command -v rustc >/dev/null 2>&1; then
   make --no-print-directory compare
+  make --no-print-directory plants
 else
   echo "gate: rustc is not on the PATH, so the comparison with Rust was skipped"
 fi

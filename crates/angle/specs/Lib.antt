@@ -1,5 +1,6 @@
--- Definitions that the public contracts cite: Numbers, Turn (reduction, sine, cosine), Arc (arctangent). Cases has worked values.
+-- Definitions that the public contracts cite: Numbers, Turn (reduction, sine, cosine), Arc (arctangent), Single (at f32). Cases has worked values.
 pub mod Numbers
 pub mod Turn
 pub mod Arc
+pub mod Single
 pub mod Cases

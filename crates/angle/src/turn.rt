@@ -1,7 +1,7 @@
 // Sine and cosine: the angle is reduced to one turn, and a nested series worked from its last divisor
 // to its first.
 ghost use mathlib.Core.Path.{_≡_};
-ghost use Rattle.angle.specs.Turn.{reduced, nested, sineDivisors, cosineDivisors, sined, cosined};
+ghost use Rattle.angle.specs.Turn.{pulled, reduced, nested, sineDivisors, cosineDivisors, sined, cosined};
 
 pub const PI: f64 = 3.141592653589793;
 
@@ -27,7 +27,13 @@ pub fn cosine(x: f64) -> f64
 pub fn reduce(x: f64) -> f64
     ensures { λ r. ⌜ r ≡ reduced x ⌝ }
 {
-    let r = x % TAU;
+    pull(x % TAU)
+}
+
+// One turn taken off above PI, or put on below -PI; never at PI or -PI itself.
+pub fn pull(r: f64) -> f64
+    ensures { λ p. ⌜ p ≡ pulled r ⌝ }
+{
     if r > PI {
         return r - TAU;
     }

@@ -4,7 +4,7 @@
 // even; overflow gives an infinity, small results may be subnormal, zeros keep their sign, and all
 // NaNs count as one value. `specs/Kinds.antt` and `specs/Narrow.antt` have the definitions,
 // `specs/Cases.antt` worked values. Laws that the crates above cite are in `proofs/Nearest.antt`,
-// `Pack.antt`, `Dyadic.antt`, `Adding.antt` and `Nan.antt`. No public function here has a `requires`.
+// `Pack.antt`, `Dyadic.antt`, `Adding.antt`, `Nan.antt` and `Casts.antt`. No public function here has a `requires`.
 pub mod alone;
 pub mod kinds;
 pub mod narrow;

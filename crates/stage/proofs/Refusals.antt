@@ -1,9 +1,9 @@
 -- Laws of the five numbers: what number 0 says of the demands, and what a call gives by its number. Assumes nothing.
 use Prim.Native.Nat.{ℕ, zero, suc}
 use native.Mathlib.Omega.{arith}
-use mathlib.Core.Path.{_≡_, refl}
+use mathlib.Core.Path.{_≡_, refl, sym, ap, _∙_}
 use mathlib.Core.Bool.{Bool, true, false}
-use Rattle.stage.specs.Refusal.{NONE, refusalNo, unless}
+use Rattle.stage.specs.Refusal.{NONE, refusalNo, unless, answered}
 
 -- each demand is met
 pub record Met (s t m n r : Bool) : Type 0 where
@@ -34,3 +34,11 @@ refused-gives (suc n) run refused h = refl
 pub run-gives : {X : Type 0} (n : ℕ) (run refused : X) → n ≡ NONE → run ≡ unless n run refused
 run-gives zero run refused h = refl
 run-gives (suc n) run refused h = absurd (omega arith)
+
+-- the same of a call that answers its number n beside what it leaves
+module _ {X : Type 0} (n number : ℕ) (run was : X) (e : n ≡ number) where
+  pub run-answers : (left : X) → left ≡ run → n ≡ NONE → (n, left) ≡ answered number run was
+  run-answers left h z = rw (e, h) (ap {B = ℕ × X} (λ x. (number, x)) (run-gives number run was (sym e ∙ z)))
+
+  pub refused-answers : (n ≡ NONE → ⊥) → (n, was) ≡ answered number run was
+  refused-answers h = rw e (ap {B = ℕ × X} (λ x. (number, x)) (refused-gives number run was (λ z. h (e ∙ z))))

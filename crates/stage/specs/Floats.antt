@@ -1,6 +1,8 @@
--- What a step is made of: +0.0 and 1.0, the test that strikes, the blend. Definitions only.
+-- What the stages' f32 work is made of: +0.0, 1.0 and 2.0, a whole number, the test that strikes, the blend. Definitions only.
+use Prim.Native.Nat.{ℕ}
 use mathlib.Core.Bool.{Bool, _&&_}
-use lib.Ieee.{Float, binary32, ofBits, add, sub, mul}
+use lib.IntN.{pos}
+use lib.Ieee.{Float, binary32, ofBits, ofInt, add, sub, mul}
 use lib.Ieee.Scale.{finite}
 
 -- +0.0, the output of a struck sample, and 1.0: by their bits in f32, and the same values in f64
@@ -9,6 +11,13 @@ plusZero = ofBits binary32 0
 
 abbrev pub one : Float
 one = ofBits binary32 0x3f80_0000
+
+abbrev pub two : Float
+two = ofBits binary32 0x4000_0000
+
+-- a whole number in f32
+unfoldable pub whole : ℕ → Float
+whole n = ofInt binary32 (pos n)
 
 -- neither is NaN or an infinity
 abbrev pub bothFinite : Float → Float → Bool

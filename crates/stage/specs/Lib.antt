@@ -7,4 +7,5 @@ pub mod Run
 pub mod Blocks
 pub mod Drop
 pub mod Layout
+pub mod Counted
 pub mod Cases

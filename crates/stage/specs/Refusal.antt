@@ -40,3 +40,7 @@ refusalNo setting state limit length room =
 abbrev pub unless : {X : Type 0} → ℕ → X → X → X
 unless zero run refused = run
 unless (suc n) run refused = refused
+
+-- the same beside the number itself: what a call gives that answers its number and leaves slices
+abbrev pub answered : {X : Type 0} → ℕ → X → X → ℕ × X
+answered number run refused = (number, unless number run refused)

@@ -3,4 +3,6 @@
 // A slice passes as a pointer and a length; states and answers pass as structs by value. Each function
 // here hands its arguments on to one public call of a stage and repeats that call's contract; no other
 // crate exports anything. `numbers.rt` has the number work, for comparing it with other libraries.
+pub mod conversion;
+pub mod filters;
 pub mod numbers;

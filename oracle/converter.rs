@@ -1,0 +1,160 @@
+// Both conversions against the original's `convert` and `convert_inverted`.
+
+use crate::call::{Calls, Judged, Outcome};
+use crate::lent::{bits, Lent};
+use crate::original::converter;
+use crate::patterns::marks;
+use crate::plan::Plan;
+use crate::refusals::{Holds, LENGTH, LIMIT, MOST, NONE};
+use crate::report::Report;
+use crate::rng::Rng;
+
+type Face = unsafe extern "C" fn(*const u8, usize, *mut f32, usize) -> u32;
+
+#[link(name = "threshlantern", kind = "static")]
+extern "C" {
+    fn tl_convert(src: *const u8, n: usize, dst: *mut f32, m: usize) -> u32;
+    fn tl_convert_inverted(src: *const u8, n: usize, dst: *mut f32, m: usize) -> u32;
+}
+
+struct Way {
+    name: &'static str,
+    library: Face,
+    original: fn(&[u8], &mut [f32]),
+}
+
+const WAYS: [Way; 2] = [
+    Way {
+        name: "convert",
+        library: tl_convert,
+        original: converter::convert,
+    },
+    Way {
+        name: "convert_inverted",
+        library: tl_convert_inverted,
+        original: converter::convert_inverted,
+    },
+];
+
+pub fn compare(plan: &Plan, report: &mut Report) {
+    for way in &WAYS {
+        pairs(way, report);
+        lengths(way, report);
+        around_the_limit(way, plan, report);
+        random(way, plan, report);
+    }
+}
+
+impl Way {
+    fn check(&self, what: &str, gives: &'static [u32]) -> Calls {
+        Calls::new(&format!("{}, {}", self.name, what), gives)
+    }
+
+    fn judge(&self, src: &[u8], dst: &[f32]) -> Judged<u32> {
+        let answer = Holds {
+            limit: src.len() > MOST,
+            length: src.len() % 2 != 0 || src.len() != dst.len(),
+            ..Holds::default()
+        }
+        .first();
+        let mut now = Vec::new();
+        if answer == NONE {
+            now.extend_from_slice(dst);
+            (self.original)(src, &mut now);
+        }
+        Judged {
+            answer,
+            written: vec![vec![], bits(&now)],
+        }
+    }
+
+    fn put(&self, calls: &mut Calls, src: &[u8], dst: &[f32]) {
+        let (mut from, mut to) = (Lent::new("src", src), Lent::new("dst", dst));
+        // Safety: both pairs of pointer and length belong together.
+        let answer = unsafe { (self.library)(from.start(), from.len(), to.start(), to.len()) };
+        let library = Outcome {
+            answer,
+            lent: vec![from.seen(), to.seen()],
+        };
+        let input = || {
+            let head = src.iter().take(8).map(|byte| format!(" {:02X}", byte));
+            let head: String = head.collect();
+            format!("src of {}:{}, dst of {}", src.len(), head, dst.len())
+        };
+        calls.hold(input, library, self.judge(src, dst));
+    }
+}
+
+/// Every byte in either half beside every other, each pair in a call of its own and all in one.
+fn pairs(way: &Way, report: &mut Report) {
+    let all: Vec<u8> = (0..=0xFFFFu16).flat_map(u16::to_be_bytes).collect();
+    let mut alone = way.check("each pair of bytes alone", &[NONE]);
+    for (k, pair) in all.chunks(2).enumerate() {
+        way.put(&mut alone, pair, &marks(2, k));
+    }
+    alone.end(report);
+    let mut once = way.check("all pairs of bytes at once", &[NONE]);
+    way.put(&mut once, &all, &marks(all.len(), 0));
+    once.end(report);
+}
+
+/// Every length up to a few pairs beside every other, odd ones and unequal ones among them.
+fn lengths(way: &Way, report: &mut Report) {
+    let mut calls = way.check("0 to 40 bytes to 0 to 40 places", &[NONE, LENGTH]);
+    let src: Vec<u8> = (0..40).map(|k| k * 6 + 1).collect();
+    for n in 0..=src.len() {
+        for m in 0..=src.len() {
+            way.put(&mut calls, &src[..n], &marks(m, n));
+        }
+    }
+    calls.end(report);
+}
+
+/// LIMIT stands before LENGTH and is the source's alone: a longer target is only unequal.
+fn around_the_limit(way: &Way, plan: &Plan, report: &mut Report) {
+    let mut rng = Rng::new(plan.seed, "around the limit");
+    let mut calls = way.check("around the limit", &[NONE, LIMIT, LENGTH]);
+    let src = bytes(&mut rng, 2 * MOST);
+    let near = [MOST - 2, MOST - 1, MOST, MOST + 1, MOST + 2];
+    for n in near.into_iter().chain([0, 1, 2, 2 * MOST]) {
+        for m in near.into_iter().chain([0, 1, 2]) {
+            way.put(&mut calls, &src[..n], &marks(m, n + m));
+        }
+    }
+    calls.end(report);
+}
+
+fn random(way: &Way, plan: &Plan, report: &mut Report) {
+    let mut rng = Rng::new(plan.seed, way.name);
+    let mut right = way.check("random, even and equal", &[NONE]);
+    let mut wrong = way.check("random, odd or unequal", &[LENGTH]);
+    let mut left = plan.count;
+    while left > 0 {
+        let n = length(&mut rng);
+        left = left.saturating_sub(n as u64 + 1);
+        let src = bytes(&mut rng, n);
+        let dst = marks(n, rng.below(1000) as usize);
+        way.put(&mut right, &src[..n / 2 * 2], &dst[..n / 2 * 2]);
+        let shorter = rng.below(n as u64) as usize;
+        match rng.below(3) {
+            0 => way.put(&mut wrong, &src[..(n - 1) | 1], &dst[..(n - 1) | 1]),
+            1 => way.put(&mut wrong, &src[..shorter], &dst),
+            _ => way.put(&mut wrong, &src, &dst[..shorter]),
+        }
+    }
+    right.end(report);
+    wrong.end(report);
+}
+
+/// From 1 on: mostly short, at times up to the limit.
+fn length(rng: &mut Rng) -> usize {
+    let most = match rng.below(100) {
+        0 => MOST as u64,
+        _ => rng.pick(&[4, 40, 400, 4000]),
+    };
+    1 + rng.below(most) as usize
+}
+
+fn bytes(rng: &mut Rng, n: usize) -> Vec<u8> {
+    (0..n).map(|_| rng.next() as u8).collect()
+}

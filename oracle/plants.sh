@@ -1,0 +1,38 @@
+#!/usr/bin/env bash
+# Plants each wrong answer in turn and sees that the comparison finds it every time: a comparison that cannot
+# fail shows nothing. Words (`--count 1000`) go to the programs. Exit status: 0 all found; 1 one was missed.
+set -eu
+
+root=$(cd "$(dirname "${BASH_SOURCE[0]}")/.." && pwd)
+words=(--seed 1 --count 100000 "$@")
+found=0
+missed=0
+
+for program in numbers stages; do
+  rm -f "$root/target/oracle/$program"
+  list=$("$root/oracle/run.sh" "$program" --plant list)
+  if [ ! -x "$root/target/oracle/$program" ]; then
+    echo "$list"
+    continue
+  fi
+  # Unfalsified, the same run finds nothing; otherwise what it finds might not be the plant.
+  if ! honest=$("$root/target/oracle/$program" "${words[@]}"); then
+    echo "$honest"
+    echo "plants: $program differs with nothing planted"
+    exit 1
+  fi
+  while read -r plant _; do
+    ended=0
+    lines=$("$root/target/oracle/$program" "${words[@]}" --plant "$plant") || ended=$?
+    told=$(grep "^plant $plant: " <<<"$lines" || true)
+    case "$ended $told" in
+      *": 0 planted, 0 missed") verdict='MISSED: it fits no call' ;;
+      "1 plant $plant: "*" planted, 0 missed") verdict=found ;;
+      *) verdict="MISSED: exit status $ended" ;;
+    esac
+    echo "$program: ${told:-plant $plant}: $verdict"
+    if [ "$verdict" = found ]; then found=$((found + 1)); else missed=$((missed + 1)); fi
+  done <<<"$list"
+done
+echo "plants: $found found, $missed missed"
+[ "$missed" = 0 ]

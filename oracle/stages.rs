@@ -1,0 +1,47 @@
+// The library's stages, held to document 01's refusals and to the Rust original.
+//
+// The judge of a call is the paper's table in front and the original's own code behind it, with
+// the paper's sine, cosine and arctangent. Every refusal, every number that is answered and every
+// lent place is compared, those that must stay as they were included. `oracle/run.sh` builds and
+// runs it.
+
+mod call;
+mod falsify;
+mod lent;
+mod original;
+mod plan;
+mod refusals;
+mod steps;
+
+// The number work is compared with these too, and uses what is not used here.
+#[allow(dead_code)]
+mod patterns;
+#[allow(dead_code)]
+mod plant;
+#[allow(dead_code)]
+mod report;
+#[allow(dead_code)]
+mod rng;
+#[allow(dead_code)]
+mod value;
+
+use std::process::ExitCode;
+
+/// A stage is a file of its name with a function `compare`; they run in this order.
+macro_rules! stages {
+    ($($stage:ident)+) => {
+        $(mod $stage;)+
+        fn compare(plan: &plan::Plan, report: &mut report::Report) {
+            $($stage::compare(plan, report);)+
+        }
+    };
+}
+
+stages! {
+    converter
+    lowpass
+}
+
+fn main() -> ExitCode {
+    plan::run(&falsify::PLANTS, compare)
+}
