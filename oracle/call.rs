@@ -1,90 +1,121 @@
-// One call of a stage: what the library was lent and gave, held to what the judge says it gives.
+// One call of a stage: what the library was handed and gave, held to what the judge says it gives.
 
 use crate::falsify;
 use crate::lent::Seen;
 use crate::plant;
+use crate::record::{Answer, Field};
 use crate::report::{Bound, Check, Report};
 use crate::value::Value;
 
-/// What a call answers: a refusal, beside it a state and counts if the call has them.
-pub trait Answer: Value {
-    fn refusal(self) -> u32;
-    fn with_refusal(self, refusal: u32) -> Self;
+/// A call of the library, by its name without `tl_`, and the numbers that the paper's table lets it
+/// give. The report's last table shows how often each was given, and fails on one that never was.
+#[derive(Clone, Copy)]
+pub struct Call {
+    pub name: &'static str,
+    pub gives: &'static [u32],
 }
 
-impl Answer for u32 {
-    fn refusal(self) -> u32 {
-        self
-    }
-    fn with_refusal(self, refusal: u32) -> u32 {
-        refusal
-    }
-}
-
-/// The number, then the state's fields and the counts as pairs of pairs.
-impl<B: Value> Answer for (u32, B) {
-    fn refusal(self) -> u32 {
-        self.0
-    }
-    fn with_refusal(self, refusal: u32) -> (u32, B) {
-        (refusal, self.1)
+impl Call {
+    pub const fn new(name: &'static str, gives: &'static [u32]) -> Call {
+        Call { name, gives }
     }
 }
 
-pub struct Outcome<A> {
-    pub answer: A,
+/// What was handed in by value, and what came of the call.
+pub struct Outcome {
+    pub given: Vec<Field>,
+    pub answer: Answer,
     pub lent: Vec<Seen>,
 }
 
 /// The judge's word on a call: its answer, and for each lent slice what is written, from the first
-/// place on. Nothing else may change.
-pub struct Judged<A> {
-    pub answer: A,
+/// place on. Nothing else may change. Beside it, for the plants, where a struck sample's outputs
+/// stand: the slice and the place in it.
+pub struct Judged {
+    pub answer: Answer,
     pub written: Vec<Vec<u32>>,
+    pub silenced: Vec<(usize, usize)>,
 }
 
-fn difference<A: Answer>(library: &Outcome<A>, judge: &Judged<A>) -> Option<String> {
-    assert_eq!(library.lent.len(), judge.written.len(), "slices compared");
-    if !library.answer.same(judge.answer) {
-        return Some(format!(
-            "library {}, judge {}",
-            library.answer.shown(),
-            judge.answer.shown()
-        ));
+impl Judged {
+    pub fn new(answer: impl Into<Answer>, written: Vec<Vec<u32>>) -> Judged {
+        Judged {
+            answer: answer.into(),
+            written,
+            silenced: Vec::new(),
+        }
     }
-    let mut slices = library.lent.iter().zip(&judge.written);
-    slices.find_map(|(seen, written)| seen.difference(written))
+}
+
+impl Outcome {
+    fn difference(&self, judge: &Judged) -> Option<String> {
+        let (library, right) = (&self.answer, &judge.answer);
+        assert_eq!(self.lent.len(), judge.written.len(), "slices compared");
+        assert_eq!(library.state.len(), right.state.len(), "fields compared");
+        assert_eq!(library.counts.len(), right.counts.len(), "counts compared");
+        if library.refusal != right.refusal {
+            let (library, right) = (library.refusal, right.refusal);
+            return Some(format!("library refuses with {library}, judge {right}"));
+        }
+        let fields = library.state.iter().chain(&library.counts);
+        let mut both = fields.zip(right.state.iter().chain(&right.counts));
+        if let Some((one, other)) = both.find(|(one, other)| !one.part.same(other.part)) {
+            let other = other.part.shown();
+            return Some(format!("library {}, judge {}", one.shown(), other));
+        }
+        let mut slices = self.lent.iter().zip(&judge.written);
+        slices.find_map(|(seen, written)| seen.difference(written))
+    }
+
+    fn shown(&self) -> String {
+        let given = self.given.iter().map(Field::shown);
+        let lent = self.lent.iter().map(Seen::handed);
+        given.chain(lent).collect::<Vec<_>>().join(", ")
+    }
 }
 
 /// A check of calls. It names the numbers that its inputs lead to, and fails if the judge never
 /// gives one of them or gives another: inputs that all are refused would show little.
 pub struct Calls {
+    call: Call,
     check: Check,
-    gives: &'static [u32],
-    given: [usize; 6],
+    gives: Vec<u32>,
+    given: [u64; 6],
 }
 
 impl Calls {
-    pub fn new(name: &str, gives: &'static [u32]) -> Calls {
+    pub fn new(call: Call, what: &str, gives: &[u32]) -> Calls {
         Calls {
-            check: Check::new(name, Bound::Exact),
-            gives,
+            call,
+            check: Check::new(&format!("{}, {}", call.name, what), Bound::Exact),
+            gives: gives.to_vec(),
             given: [0; 6],
         }
     }
 
-    pub fn hold<A: Answer>(
+    pub fn hold(
         &mut self,
-        input: impl Fn() -> String,
-        mut library: Outcome<A>,
-        judge: Judged<A>,
+        given: Vec<Field>,
+        answer: impl Into<Answer>,
+        lent: Vec<Seen>,
+        judge: Judged,
     ) {
-        let turn = self.given.iter().sum();
-        self.given[judge.answer.refusal() as usize] += 1;
-        let planted =
-            plant::chosen().is_some_and(|p| falsify::plant(p, turn, &mut library, &judge));
-        let difference = difference(&library, &judge);
-        let told = difference.map(|what| move || format!("at {}: {}", input(), what));
+        let answer = answer.into();
+        let mut library = Outcome {
+            given,
+            answer,
+            lent,
+        };
+        let turn = self.given.iter().sum::<u64>() as usize;
+        self.given[judge.answer.refusal as usize] += 1;
+        let mut planted = false;
+        if let Some(plant) = plant::chosen() {
+            self.check
+                .could_plant(falsify::could(plant, &self.call, &judge));
+            planted = falsify::plant(plant, turn, &mut library, &judge);
+        }
+        let difference = library.difference(&judge);
+        let told = difference.map(|what| move || format!("at {}: {}", library.shown(), what));
         self.check.count(told, planted);
     }
 
@@ -98,6 +129,7 @@ impl Calls {
                 self.check.fail(why);
             }
         }
+        report.given(self.call.name, self.given);
         report.end_of(self.check);
     }
 }

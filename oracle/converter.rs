@@ -1,6 +1,6 @@
 // Both conversions against the original's `convert` and `convert_inverted`.
 
-use crate::call::{Calls, Judged, Outcome};
+use crate::call::{Call, Calls, Judged};
 use crate::lent::{bits, Lent};
 use crate::original::converter;
 use crate::patterns::marks;
@@ -18,19 +18,25 @@ extern "C" {
 }
 
 struct Way {
-    name: &'static str,
+    call: Call,
     library: Face,
     original: fn(&[u8], &mut [f32]),
 }
 
+const GIVES: &[u32] = &[NONE, LIMIT, LENGTH];
+pub const CALLS: &[Call] = &[
+    Call::new("convert", GIVES),
+    Call::new("convert_inverted", GIVES),
+];
+
 const WAYS: [Way; 2] = [
     Way {
-        name: "convert",
+        call: CALLS[0],
         library: tl_convert,
         original: converter::convert,
     },
     Way {
-        name: "convert_inverted",
+        call: CALLS[1],
         library: tl_convert_inverted,
         original: converter::convert_inverted,
     },
@@ -47,10 +53,10 @@ pub fn compare(plan: &Plan, report: &mut Report) {
 
 impl Way {
     fn check(&self, what: &str, gives: &'static [u32]) -> Calls {
-        Calls::new(&format!("{}, {}", self.name, what), gives)
+        Calls::new(self.call, what, gives)
     }
 
-    fn judge(&self, src: &[u8], dst: &[f32]) -> Judged<u32> {
+    fn judge(&self, src: &[u8], dst: &[f32]) -> Judged {
         let answer = Holds {
             limit: src.len() > MOST,
             length: src.len() % 2 != 0 || src.len() != dst.len(),
@@ -62,26 +68,15 @@ impl Way {
             now.extend_from_slice(dst);
             (self.original)(src, &mut now);
         }
-        Judged {
-            answer,
-            written: vec![vec![], bits(&now)],
-        }
+        Judged::new(answer, vec![vec![], bits(&now)])
     }
 
     fn put(&self, calls: &mut Calls, src: &[u8], dst: &[f32]) {
         let (mut from, mut to) = (Lent::new("src", src), Lent::new("dst", dst));
         // Safety: both pairs of pointer and length belong together.
         let answer = unsafe { (self.library)(from.start(), from.len(), to.start(), to.len()) };
-        let library = Outcome {
-            answer,
-            lent: vec![from.seen(), to.seen()],
-        };
-        let input = || {
-            let head = src.iter().take(8).map(|byte| format!(" {:02X}", byte));
-            let head: String = head.collect();
-            format!("src of {}:{}, dst of {}", src.len(), head, dst.len())
-        };
-        calls.hold(input, library, self.judge(src, dst));
+        let lent = vec![from.seen(), to.seen()];
+        calls.hold(vec![], answer, lent, self.judge(src, dst));
     }
 }
 
@@ -125,7 +120,7 @@ fn around_the_limit(way: &Way, plan: &Plan, report: &mut Report) {
 }
 
 fn random(way: &Way, plan: &Plan, report: &mut Report) {
-    let mut rng = Rng::new(plan.seed, way.name);
+    let mut rng = Rng::new(plan.seed, way.call.name);
     let mut right = way.check("random, even and equal", &[NONE]);
     let mut wrong = way.check("random, odd or unequal", &[LENGTH]);
     let mut left = plan.count;

@@ -44,6 +44,8 @@ pub struct Lent<T> {
 }
 
 const FENCE: usize = 8;
+/// So many places of a slice are shown beside a difference.
+const HEAD: usize = 8;
 
 impl<T: Place> Lent<T> {
     pub fn new(name: &'static str, slice: &[T]) -> Lent<T> {
@@ -68,6 +70,11 @@ impl<T: Place> Lent<T> {
 
     pub fn len(&self) -> usize {
         self.len
+    }
+
+    /// What stands in it now.
+    pub fn slice(&self) -> &[T] {
+        &self.places[self.front..self.front + self.len]
     }
 
     pub fn seen(self) -> Seen {
@@ -122,6 +129,15 @@ impl Seen {
             }
         }
         None
+    }
+
+    /// The slice as it was handed in: its length and its head.
+    pub fn handed(&self) -> String {
+        let slice = &self.before[self.front..self.front + self.len];
+        let digits = if self.float { 8 } else { 2 };
+        let head = slice.iter().take(HEAD).map(|p| format!(" {:0digits$X}", p));
+        let head: String = head.collect();
+        format!("{} of {}:{}", self.name, self.len, head)
     }
 
     fn shown(&self, pattern: u32) -> String {

@@ -1,15 +1,15 @@
 // The lowpass taps against the original's `design_lowpass`.
 
-use crate::call::{Calls, Judged, Outcome};
+use crate::call::{Call, Calls, Judged};
 use crate::lent::{bits, Lent};
 use crate::original::dsp;
 use crate::patterns::{any_f32, beside_f32, edges_f32, marks};
 use crate::plan::Plan;
+use crate::record::fields;
 use crate::refusals::{self, Holds, MOST, NONE, SETTING};
 use crate::report::{Bound, Check, Report};
 use crate::rng::Rng;
 use crate::steps::{cosine_f32, sine_f32};
-use crate::value::Value;
 
 #[link(name = "threshlantern", kind = "static")]
 extern "C" {
@@ -19,6 +19,9 @@ extern "C" {
 /// The least cutoff, and the least number that is above every cutoff.
 const LEAST: f32 = 1.0 / 1024.0;
 const ABOVE: f32 = 0.5;
+
+const DESIGN: Call = Call::new("design_lowpass", &[NONE, SETTING]);
+pub const CALLS: &[Call] = &[DESIGN];
 
 pub fn compare(plan: &Plan, report: &mut Report) {
     every_count(plan, report);
@@ -30,7 +33,7 @@ pub fn compare(plan: &Plan, report: &mut Report) {
     }
 }
 
-fn judge(count: usize, cutoff: f32) -> Judged<u32> {
+fn judge(count: usize, cutoff: f32) -> Judged {
     let answer = Holds {
         setting: !(refusals::lowpass_taps(count) && refusals::cutoff(cutoff)),
         ..Holds::default()
@@ -40,22 +43,15 @@ fn judge(count: usize, cutoff: f32) -> Judged<u32> {
         NONE => dsp::design_lowpass(count, cutoff),
         _ => Vec::new(),
     };
-    Judged {
-        answer,
-        written: vec![bits(&taps)],
-    }
+    Judged::new(answer, vec![bits(&taps)])
 }
 
 fn put(calls: &mut Calls, count: usize, cutoff: f32) {
     let mut taps = Lent::new("taps", &marks(count, count / 2));
     // Safety: pointer and length belong together.
     let answer = unsafe { tl_design_lowpass(taps.start(), taps.len(), cutoff) };
-    let library = Outcome {
-        answer,
-        lent: vec![taps.seen()],
-    };
-    let input = || format!("{} taps, cutoff {}", count, cutoff.shown());
-    calls.hold(input, library, judge(count, cutoff));
+    let lent = vec![taps.seen()];
+    calls.hold(fields![cutoff], answer, lent, judge(count, cutoff));
 }
 
 fn counts() -> impl Iterator<Item = usize> {
@@ -65,7 +61,7 @@ fn counts() -> impl Iterator<Item = usize> {
 /// With the cutoffs at both ends, set ones, random ones, and the pairs that `with_factor` makes.
 fn every_count(plan: &Plan, report: &mut Report) {
     let mut rng = Rng::new(plan.seed, "every count");
-    let mut calls = Calls::new("design_lowpass, every count", &[NONE]);
+    let mut calls = Calls::new(DESIGN, "every count", &[NONE]);
     let of_factor = |factor: usize| 0.75 / factor as f32;
     for count in counts() {
         let ends = [LEAST, beside_f32(LEAST, 1), beside_f32(ABOVE, -1)];
@@ -81,7 +77,7 @@ fn every_count(plan: &Plan, report: &mut Report) {
 /// Counts that are even, too small or too large, and cutoffs that are no cutoffs; a slice above the
 /// limit is a count above 769, and so a setting.
 fn edges(report: &mut Report) {
-    let mut calls = Calls::new("design_lowpass, counts to 1100, edges", &[NONE, SETTING]);
+    let mut calls = Calls::new(DESIGN, "counts to 1100, edges", &[NONE, SETTING]);
     let mut cutoffs = vec![0.0, -0.0, 0.25, -0.25, -LEAST, 1.0, f32::MAX, f32::MIN];
     cutoffs.extend([f32::INFINITY, f32::NEG_INFINITY, f32::MIN_POSITIVE]);
     cutoffs.extend([0x7FC0_0000, 0x7F80_0001, 0xFFFF_FFFF, 1].map(f32::from_bits));
@@ -100,8 +96,8 @@ fn edges(report: &mut Report) {
 
 fn random(plan: &Plan, report: &mut Report) {
     let mut rng = Rng::new(plan.seed, "design_lowpass");
-    let mut right = Calls::new("design_lowpass, random", &[NONE]);
-    let mut wrong = Calls::new("design_lowpass, random, refused", &[SETTING]);
+    let mut right = Calls::new(DESIGN, "random", &[NONE]);
+    let mut wrong = Calls::new(DESIGN, "random, refused", &[SETTING]);
     let edges = edges_f32();
     let mut left = plan.count / 8;
     while left > 0 {
@@ -135,7 +131,7 @@ fn in_range(rng: &mut Rng) -> f32 {
 }
 
 fn every_cutoff(report: &mut Report) {
-    let mut calls = Calls::new("design_lowpass, 3 taps, every cutoff", &[NONE]);
+    let mut calls = Calls::new(DESIGN, "3 taps, every cutoff", &[NONE]);
     (LEAST.to_bits()..ABOVE.to_bits()).for_each(|c| put(&mut calls, 3, f32::from_bits(c)));
     calls.end(report);
 }

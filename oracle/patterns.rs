@@ -117,6 +117,36 @@ pub fn edges_f64() -> Vec<f64> {
     out
 }
 
+/// At the ends of the rules on settings and beside them, and what breaks every rule.
+pub fn ends_f32() -> Vec<f32> {
+    let ends = [0.0, f32::MIN_POSITIVE, 0.5, 1.0, 2.0, f32::MAX];
+    let mut out = Vec::new();
+    for x in ends {
+        let beside = [x, beside_f32(x, 1), f32::from_bits(x.to_bits().max(1) - 1)];
+        out.extend(beside.into_iter().flat_map(|y| [y, -y]));
+    }
+    out.extend([0x7FC0_0000, 0x7F80_0001, 0xFFFF_FFFF].map(f32::from_bits));
+    out
+}
+
+/// The same of f64, with PI and the turn among the ends.
+pub fn ends_f64() -> Vec<f64> {
+    let (pi, turn) = (std::f64::consts::PI, std::f64::consts::TAU);
+    let ends = [0.0, f64::MIN_POSITIVE, 0.5, 1.0, pi, turn, f64::MAX];
+    let mut out = Vec::new();
+    for x in ends {
+        let beside = [x, beside_f64(x, 1), f64::from_bits(x.to_bits().max(1) - 1)];
+        out.extend(beside.into_iter().flat_map(|y| [y, -y]));
+    }
+    let nans = [
+        0x7FF8_0000_0000_0000,
+        0x7FF0_0000_0000_0001,
+        0xFFFF_FFFF_FFFF_FFFF,
+    ];
+    out.extend(nans.map(f64::from_bits));
+    out
+}
+
 /// What lent places hold before a call: a pattern for each, told apart by its place, and none that
 /// a stage is likely to write. NaNs of both kinds are among them, as one that stays keeps its bits.
 pub fn marks(len: usize, from: usize) -> Vec<f32> {

@@ -9,20 +9,33 @@ use std::sync::OnceLock;
 #[derive(Clone, Copy, PartialEq, Eq)]
 pub enum Plant {
     LastBit,
+    OtherZero,
     TooFar,
     Swap,
     SkipLast,
     Silence,
     RefusesAll,
     AcceptsSetting,
+    AcceptsState,
     AcceptsLimit,
     AcceptsLength,
+    AcceptsRoom,
+    StateFirst,
     LengthFirst,
+    RoomFirst,
     WritesOnRefusal,
     WritesPast,
     WritesBefore,
     WritesInput,
     OtherNan,
+    StateOff,
+    StateStays,
+    StateOnRefusal,
+    ZerosOnRefusal,
+    CountOff,
+    StruckOff,
+    CountOnRefusal,
+    StruckHeard,
 }
 
 impl Plant {
@@ -32,6 +45,7 @@ impl Plant {
                 "last-bit",
                 "one number that is given has its last bit flipped",
             ),
+            Plant::OtherZero => ("other-zero", "one zero that is written has the other sign"),
             Plant::TooFar => ("too-far", "one number that has a bound is just beyond it"),
             Plant::Swap => (
                 "swap",
@@ -41,14 +55,35 @@ impl Plant {
             Plant::Silence => ("silence", "0.0 is written everywhere"),
             Plant::RefusesAll => ("refuses-all", "every call is refused with 1"),
             Plant::AcceptsSetting => ("accepts-setting", "0 for the refusal 1"),
+            Plant::AcceptsState => ("accepts-state", "0 for the refusal 2"),
             Plant::AcceptsLimit => ("accepts-limit", "0 for the refusal 3"),
             Plant::AcceptsLength => ("accepts-length", "0 for the refusal 4"),
+            Plant::AcceptsRoom => ("accepts-room", "0 for the refusal 5"),
+            Plant::StateFirst => ("state-first", "2 for the refusal 1"),
             Plant::LengthFirst => ("length-first", "4 for the refusal 3"),
+            Plant::RoomFirst => ("room-first", "5 for the refusal 4"),
             Plant::WritesOnRefusal => ("writes-on-refusal", "a refused call changes a lent place"),
             Plant::WritesPast => ("writes-past", "the place after the last one is written too"),
             Plant::WritesBefore => ("writes-before", "the place before a slice is changed"),
             Plant::WritesInput => ("writes-input", "a slice that is lent to be read is changed"),
             Plant::OtherNan => ("other-nan", "a NaN that stays gets other bits"),
+            Plant::StateOff => (
+                "state-off",
+                "a field of the new state has its last bit flipped",
+            ),
+            Plant::StateStays => (
+                "state-stays",
+                "an accepted call gives back the state handed in",
+            ),
+            Plant::StateOnRefusal => (
+                "state-on-refusal",
+                "a refused call changes a field of the state",
+            ),
+            Plant::ZerosOnRefusal => ("zeros-on-refusal", "a refused call gives back zeros"),
+            Plant::CountOff => ("count-off", "one output too many is counted"),
+            Plant::StruckOff => ("struck-off", "one struck sample too many is counted"),
+            Plant::CountOnRefusal => ("count-on-refusal", "a refused call counts one"),
+            Plant::StruckHeard => ("struck-heard", "a struck sample puts out -0.0 and not 0.0"),
         }
     }
 

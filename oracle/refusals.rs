@@ -51,3 +51,52 @@ pub fn lowpass_taps(count: usize) -> bool {
 pub fn cutoff(cutoff: f32) -> bool {
     cutoff >= 1.0 / 1024.0 && cutoff < 0.5
 }
+
+pub fn hilbert_taps(count: usize) -> bool {
+    count % 2 == 1 && (3..=129).contains(&count)
+}
+
+pub fn factor(factor: usize) -> bool {
+    (2..=64).contains(&factor)
+}
+
+/// Alpha, attack, decay.
+pub fn unit(x: f32) -> bool {
+    x >= 0.0 && x <= 1.0
+}
+
+/// Target, floor, rate.
+pub fn above_zero(x: f32) -> bool {
+    x > 0.0 && x.is_finite()
+}
+
+/// Tau, hang time.
+pub fn not_below_zero(x: f32) -> bool {
+    x >= 0.0 && x.is_finite()
+}
+
+/// The least number of samples that is above every hang time.
+pub const HANG: usize = 16_777_216;
+
+/// (time x rate) / 1000 in f32, before it is truncated.
+pub fn hang(time: f32, rate: f32) -> bool {
+    not_below_zero(time) && above_zero(rate) && time * rate / 1000.0 < HANG as f32
+}
+
+/// The alpha as computed is NaN where 1 / rate overflows.
+pub fn deemphasis(rate: f32, tau: f32) -> bool {
+    let dt = 1.0 / rate;
+    above_zero(rate) && not_below_zero(tau) && unit(dt / (dt + tau))
+}
+
+pub fn increment(x: f64) -> bool {
+    use std::f64::consts::PI;
+    (-PI..=PI).contains(&x)
+}
+
+/// The increment as computed: 2 x PI x frequency, then divided by the rate.
+pub fn frequency(frequency: f64, rate: f64) -> bool {
+    let rate_kept = rate > 0.0 && rate.is_finite();
+    let computed = 2.0 * std::f64::consts::PI * frequency / rate;
+    frequency.is_finite() && rate_kept && increment(computed)
+}

@@ -2,6 +2,7 @@
 
 use crate::plant::{self, Plant};
 use crate::value::Value;
+use std::collections::BTreeMap;
 use std::process::ExitCode;
 
 /// How far an answer may be from its reference, where not every bit has to agree.
@@ -22,6 +23,7 @@ pub struct Check {
     shown: Vec<String>,
     unfit: bool,
     plant: Option<Plant>,
+    could: bool,
     planted: u64,
     missed: u64,
 }
@@ -42,6 +44,7 @@ impl Check {
             shown: Vec::new(),
             unfit: false,
             plant: plant::chosen(),
+            could: false,
             planted: 0,
             missed: 0,
         }
@@ -80,6 +83,11 @@ impl Check {
             self.differ += 1;
             self.show(told);
         }
+    }
+
+    /// Says that the plant has its place in a call of this check, fitting or not.
+    pub fn could_plant(&mut self, could: bool) {
+        self.could |= could;
     }
 
     /// Fails the check for a reason that is no difference.
@@ -154,14 +162,17 @@ impl Check {
 pub struct Report {
     checks: u32,
     failed: u32,
+    could: bool,
     planted: u64,
     missed: u64,
+    given: BTreeMap<&'static str, [u64; 6]>,
 }
 
 impl Report {
     /// A check that compared nothing has shown nothing, and fails.
     pub fn end_of(&mut self, check: Check) {
         self.checks += 1;
+        self.could |= check.could || check.planted > 0;
         self.planted += check.planted;
         self.missed += check.missed;
         if check.differ > 0 || check.compared == 0 || check.unfit {
@@ -179,14 +190,51 @@ impl Report {
         }
     }
 
+    /// More inputs of a call, by the number that the judge gave each.
+    pub fn given(&mut self, call: &'static str, times: [u64; 6]) {
+        let all = self.given.entry(call).or_default();
+        all.iter_mut().zip(times).for_each(|(sum, n)| *sum += n);
+    }
+
+    /// How many inputs each call had to each number. One that a call may give and never gave was
+    /// not compared, and fails; `-` stands where the table has no such number for the call.
+    pub fn numbers(&mut self, calls: &[(&'static str, &'static [u32])]) {
+        self.checks += 1;
+        println!("\n{:<32} inputs to the number", "call");
+        let head: String = (0..6).map(|number| format!("{:>11}", number)).collect();
+        println!("{:<32}{}", "", head);
+        let mut never = 0;
+        for (call, gives) in calls {
+            let times = self.given.get(call).copied().unwrap_or_default();
+            let cell = |number: usize| match (gives.contains(&(number as u32)), times[number]) {
+                (false, 0) => "-".to_string(),
+                (true, 0) => "NEVER".to_string(),
+                (true, n) => n.to_string(),
+                (false, n) => format!("{n}: WHY"),
+            };
+            let cells: Vec<String> = (0..6).map(cell).collect();
+            never += cells
+                .iter()
+                .filter(|c| c.ends_with(char::is_alphabetic))
+                .count();
+            let row: String = cells.iter().map(|c| format!("{:>11}", c)).collect();
+            println!("{:<32}{}", call, row);
+        }
+        self.failed += u32::from(never > 0);
+        println!();
+    }
+
     pub fn end(self) -> ExitCode {
         if let Some(plant) = plant::chosen() {
-            println!(
-                "plant {}: {} planted, {} missed",
-                plant.name(),
-                self.planted,
-                self.missed
-            );
+            let name = plant.name();
+            if self.could {
+                println!(
+                    "plant {}: {} planted, {} missed",
+                    name, self.planted, self.missed
+                );
+            } else {
+                println!("plant {}: no call here has a place for it", name);
+            }
         }
         println!("compare: {} checks, {} failed", self.checks, self.failed);
         if self.failed == 0 {

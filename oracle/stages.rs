@@ -7,11 +7,27 @@
 
 mod call;
 mod falsify;
-mod lent;
 mod original;
 mod plan;
-mod refusals;
 mod steps;
+
+// Not every stage in the list below uses all of these.
+#[allow(dead_code)]
+mod feedback;
+#[allow(dead_code)]
+mod laws;
+#[allow(dead_code)]
+mod lent;
+#[allow(dead_code, unused_macros, unused_imports)]
+mod record;
+#[allow(dead_code)]
+mod refusals;
+#[allow(dead_code)]
+mod streams;
+#[allow(dead_code)]
+mod struck;
+#[allow(dead_code)]
+mod trials;
 
 // The number work is compared with these too, and uses what is not used here.
 #[allow(dead_code)]
@@ -27,12 +43,15 @@ mod value;
 
 use std::process::ExitCode;
 
-/// A stage is a file of its name with a function `compare`; they run in this order.
+/// A stage is a file of its name with its `CALLS` and a function `compare`; they run in this order.
 macro_rules! stages {
     ($($stage:ident)+) => {
         $(mod $stage;)+
         fn compare(plan: &plan::Plan, report: &mut report::Report) {
             $($stage::compare(plan, report);)+
+            let calls = [$($stage::CALLS),+].concat();
+            let calls: Vec<_> = calls.iter().map(|call| (call.name, call.gives)).collect();
+            report.numbers(&calls);
         }
     };
 }
@@ -40,6 +59,12 @@ macro_rules! stages {
 stages! {
     converter
     lowpass
+    dc_remover
+    agc
+    audio_agc
+    fm
+    am
+    nco
 }
 
 fn main() -> ExitCode {

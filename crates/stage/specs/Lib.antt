@@ -8,4 +8,14 @@ pub mod Blocks
 pub mod Drop
 pub mod Layout
 pub mod Counted
+pub mod Lent
+pub mod Stage
+pub mod Call
+pub mod Calls
+pub mod Kept
+pub mod Into
+pub mod IntoCalls
+pub mod InTurn
+pub mod Burst
+pub mod Named
 pub mod Cases

@@ -4,5 +4,8 @@
 // here hands its arguments on to one public call of a stage and repeats that call's contract; no other
 // crate exports anything. `numbers.rt` has the number work, for comparing it with other libraries.
 pub mod conversion;
+pub mod demodulators;
 pub mod filters;
+pub mod levels;
 pub mod numbers;
+pub mod oscillator;

@@ -1,0 +1,44 @@
+-- `fm::step::step` meets its contract: the test on the three floats decides. Assumes nothing.
+use Rattle.fm.specs.Step.{fmStep, smoothed}
+use borrow.Author.Needs.{needs}
+use Rattle.fm.proofs.step.step.Statement.{statement}
+use Rattle.fm.proofs.step.step.Tie as tie
+
+wrap-requires : tie.Need-wrap-requires
+wrap-requires c κs = search needs
+
+blend-requires : tie.Need-blend-requires
+blend-requires c κs = search needs
+
+both-finite-requires : tie.Need-both-finite-requires
+both-finite-requires c κs = search needs
+
+finite-f32-requires : tie.Need-finite-f32-requires
+finite-f32-requires c κs = search needs
+
+returns : tie.Need-returns
+unfolding fmStep smoothed
+returns c =
+    let f = c .before in
+    let b = f .before in
+    let d = b .before in
+    rw (← d .before .wrap .ensures, ← d .blend .ensures, ← b .both-finite .ensures, ← f .finite-f32 .ensures, c .if1 .taken)
+
+returns-2 : tie.Need-returns-2
+unfolding fmStep smoothed
+returns-2 c =
+    let f = c .before in
+    let b = f .before in
+    let d = b .before in
+    rw (← d .before .wrap .ensures, ← d .blend .ensures, ← b .both-finite .ensures, ← f .finite-f32 .ensures, c .if1 .left)
+
+pub step-spec : {M : Type 1} → statement M
+step-spec =
+    tie.close
+    (tie.spec
+    wrap-requires
+    blend-requires
+    both-finite-requires
+    finite-f32-requires
+    returns
+    returns-2)

@@ -1,0 +1,5 @@
+-- Definitions that the public contracts cite: Mix (the work), Rules (settings and state), Call (what each call gives). Cases has worked values.
+pub mod Mix
+pub mod Rules
+pub mod Call
+pub mod Cases
