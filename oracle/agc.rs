@@ -3,7 +3,7 @@
 use crate::call::{Call, Calls};
 use crate::feedback::{make, Face, Way};
 use crate::original::dsp;
-use crate::patterns::{any_f32, ends_f32};
+use crate::patterns::{any_f32, ends_f32, INF, MAX, NAN};
 use crate::plan::Plan;
 use crate::record::{fields, record, Striking};
 use crate::refusals::{self, LENGTH, LIMIT, NONE, SETTING, STATE};
@@ -56,18 +56,7 @@ pub fn compare(plan: &Plan, report: &mut Report) {
         floats: vec![|s| &mut s.gain, |s| &mut s.target, |s| &mut s.attack, |s| {
             &mut s.decay
         }],
-        few: vec![
-            0.0,
-            -0.0,
-            0.5,
-            -3.0,
-            1e-30,
-            1e19,
-            1e30,
-            f32::MAX,
-            f32::NEG_INFINITY,
-            f32::NAN,
-        ],
+        few: vec![0.0, -0.0, 0.5, -3.0, 1e-30, 1e19, 1e30, MAX, -INF, NAN],
         any,
     };
     making(plan, report);
@@ -88,8 +77,8 @@ fn states() -> Vec<State> {
         state(1.0, 1.0, 1.0, 1.0),
         state(0.0, 1.0, 0.5, 0.0),
         state(-1.0, 2.0, 0.0, 0.5),
-        state(f32::MAX, 1.0, 0.5, 0.5),
-        state(f32::MAX, f32::MAX, 1.0, 1.0),
+        state(MAX, 1.0, 0.5, 0.5),
+        state(MAX, MAX, 1.0, 1.0),
         state(1e30, 1e30, 0.0, 0.25),
         state(1e-45, 1e-45, -0.0, 1.0),
         // The error of the pair (0.5, 0) itself, which is then the decay's to follow: it stays.
@@ -148,9 +137,9 @@ fn infinite(report: &mut Report) {
     let mut check = Check::new("agc, which infinities are struck", Bound::Exact);
     let cases: [([f32; 2], usize); 4] = [
         ([1e30, 0.0], 0),
-        ([f32::MAX, f32::MAX], 0),
-        ([f32::INFINITY, 0.0], 1),
-        ([0.0, f32::NAN], 1),
+        ([MAX, MAX], 0),
+        ([INF, 0.0], 1),
+        ([0.0, NAN], 1),
     ];
     for (pair, struck) in cases {
         let (_, heard) = PROCESS.put(&mut calls, states()[0], &pair, 0);
@@ -159,8 +148,8 @@ fn infinite(report: &mut Report) {
     // With decay 0 the gain stays, and 4 times the largest float overflows.
     let mut loud = states()[1];
     loud.attack = 0.0;
-    let (_, heard) = PROCESS.put(&mut calls, loud, &[f32::MAX, 0.0], 0);
-    check.equal((f32::MAX, 0.0f32), heard.struck, 1);
+    let (_, heard) = PROCESS.put(&mut calls, loud, &[MAX, 0.0], 0);
+    check.equal((MAX, 0.0f32), heard.struck, 1);
     calls.end(report);
     report.end_of(check);
 }

@@ -2,7 +2,9 @@
 
 use crate::call::{Call, Calls, Judged};
 use crate::feedback::{Face, Way};
+use crate::lent::{N, R, W};
 use crate::original::dsp;
+use crate::patterns::{INF, MAX, NAN};
 use crate::plan::Plan;
 use crate::record::{record, CountedStriking};
 use crate::refusals::{self, LENGTH, LIMIT, NONE, ROOM, SETTING, STATE};
@@ -20,13 +22,11 @@ record!(
 );
 
 type Answered = CountedStriking<State>;
-type R = *const f32;
-type W = *mut f32;
 
 #[link(name = "threshlantern", kind = "static")]
 extern "C" {
     fn tl_am_new() -> Answered;
-    fn tl_am_process_into(state: State, input: R, n: usize, output: W, m: usize) -> Answered;
+    fn tl_am_process_into(state: State, input: R, n: N, output: W, m: N) -> Answered;
 }
 
 const NEW: Call = Call::new("am_new", &[NONE]);
@@ -55,18 +55,7 @@ pub fn compare(plan: &Plan, report: &mut Report) {
             |s| &mut s.hp_alpha,
             |s| &mut s.hp_state,
         ],
-        few: vec![
-            0.0,
-            -0.0,
-            3.0,
-            -4.0,
-            0.3,
-            1e-30,
-            1e19,
-            f32::MAX,
-            f32::NEG_INFINITY,
-            f32::NAN,
-        ],
+        few: vec![0.0, -0.0, 3.0, -4.0, 0.3, 1e-30, 1e19, MAX, -INF, NAN],
         any,
     };
     new(report);
@@ -85,8 +74,8 @@ fn states() -> Vec<State> {
         State { dc_alpha: 1.0, dc_mean: 2.0, hp_alpha: 1.0, hp_state: 3.0 },
         State { dc_alpha: 0.0, dc_mean: -1.0, hp_alpha: 0.0, hp_state: 1e-45 },
         State { dc_alpha: -0.0, dc_mean: 1e-45, hp_alpha: 0.5, hp_state: -0.5 },
-        State { dc_alpha: 0.5, dc_mean: f32::MAX, hp_alpha: 0.5, hp_state: f32::MIN },
-        State { dc_alpha: 0.7, dc_mean: f32::MIN, hp_alpha: 0.1, hp_state: f32::MAX },
+        State { dc_alpha: 0.5, dc_mean: MAX, hp_alpha: 0.5, hp_state: -MAX },
+        State { dc_alpha: 0.7, dc_mean: -MAX, hp_alpha: 0.1, hp_state: MAX },
         State { dc_alpha: 0.25, dc_mean: 1e-45, hp_alpha: 1e-3, hp_state: 0.0 },
     ]
 }
@@ -122,8 +111,8 @@ fn marked(report: &mut Report) {
     let cases: [([f32; 2], usize); 4] = [
         ([3.0, 4.0], 0),
         ([1e30, 0.0], 1),
-        ([f32::INFINITY, 0.0], 1),
-        ([0.0, f32::NAN], 1),
+        ([INF, 0.0], 1),
+        ([0.0, NAN], 1),
     ];
     for (pair, struck) in cases {
         let (state, heard) = PROCESS.put(&mut calls, states()[0], &pair, 1);

@@ -3,7 +3,7 @@
 use crate::call::{Call, Calls};
 use crate::feedback::{make, Face, Way};
 use crate::original::dsp;
-use crate::patterns::{any_f32, beside_f32, ends_f32};
+use crate::patterns::{any_f32, beside_f32, ends_f32, INF, MAX, NAN};
 use crate::plan::Plan;
 use crate::record::{fields, record, Striking};
 use crate::refusals::{self, HANG, LIMIT, NONE, SETTING, STATE};
@@ -80,19 +80,7 @@ pub fn compare(plan: &Plan, report: &mut Report) {
             |s| &mut s.min_magnitude,
             |s| &mut s.envelope,
         ],
-        few: vec![
-            0.0,
-            -0.0,
-            0.01,
-            -0.1,
-            0.019,
-            1.5,
-            1e30,
-            f32::MAX,
-            f32::INFINITY,
-            f32::NEG_INFINITY,
-            f32::NAN,
-        ],
+        few: vec![0.0, -0.0, 0.01, -0.1, 0.019, 1.5, 1e30, MAX, INF, -INF, NAN],
         any,
     };
     making(plan, report);
@@ -125,11 +113,11 @@ fn states() -> Vec<State> {
         State { gain: 1.0 + 1e-6, envelope: 0.005, hang_counter: 2, ..USUAL },
         State { gain: 1.000_001_2, envelope: 0.005, ..USUAL },
         State { gain: 20.0, envelope: 0.0101, hang_counter: 1, ..USUAL },
-        State { gain: 1e30, min_magnitude: f32::MAX, ..USUAL },
-        State { gain: f32::MAX, attack: 0.0, decay: 1.0, hang_counter: 3, ..USUAL },
+        State { gain: 1e30, min_magnitude: MAX, ..USUAL },
+        State { gain: MAX, attack: 0.0, decay: 1.0, hang_counter: 3, ..USUAL },
         State { gain: -2.0, attack: 1.0, decay: -0.0, envelope: -1.0, ..USUAL },
-        State { target: f32::MAX, min_magnitude: 1e-45, hang_counter: 2, ..USUAL },
-        State { target: f32::MAX, min_magnitude: 1e-45, decay: 0.0, envelope: 1e-9, ..USUAL },
+        State { target: MAX, min_magnitude: 1e-45, hang_counter: 2, ..USUAL },
+        State { target: MAX, min_magnitude: 1e-45, decay: 0.0, envelope: 1e-9, ..USUAL },
     ]
 }
 
@@ -222,8 +210,8 @@ fn told(report: &mut Report) {
     let mut calls = Calls::new(PROCESS.call, "what is struck", &[NONE, SETTING]);
     let mut check = Check::new("audio_agc, what is struck, as told", Bound::Exact);
     let loud = State { gain: 1e30, attack: 0.0, ..USUAL };
-    let dead = State { min_magnitude: f32::MAX, ..loud };
-    let hung = State { target: f32::MAX, min_magnitude: 1e-45, hang_counter: 1, ..USUAL };
+    let dead = State { min_magnitude: MAX, ..loud };
+    let hung = State { target: MAX, min_magnitude: 1e-45, hang_counter: 1, ..USUAL };
     let past = State { hang_counter: 0, decay: 0.0, ..hung };
     let cases: [(State, f32, f32, usize); 5] = [
         (loud, 1e30, 1.0, 0),
@@ -272,7 +260,7 @@ fn hang(report: &mut Report) {
             for hang_counter in [0, 1, 2, hang_time_samples.wrapping_add_signed(by)] {
                 for (gain, target, n) in [
                     (1.0, 0.7, 5),
-                    (f32::NAN, 0.7, 5),
+                    (NAN, 0.7, 5),
                     (1.0, 0.0, 5),
                     (1.0, 0.7, long.len()),
                 ] {

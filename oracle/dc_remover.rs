@@ -3,7 +3,7 @@
 use crate::call::{Call, Calls};
 use crate::feedback::{make, Face, Way};
 use crate::original::dsp;
-use crate::patterns::{any_f32, ends_f32};
+use crate::patterns::{any_f32, ends_f32, INF, MAX, NAN};
 use crate::plan::Plan;
 use crate::record::{fields, record, Striking};
 use crate::refusals::{self, LENGTH, LIMIT, MOST, NONE, SETTING, STATE};
@@ -84,19 +84,7 @@ pub fn compare(plan: &Plan, report: &mut Report) {
         states: states(),
         usual: 2,
         floats: vec![|s| &mut s.avg_i, |s| &mut s.avg_q, |s| &mut s.alpha],
-        few: vec![
-            0.0,
-            -0.0,
-            1.0,
-            -0.3,
-            1e-45,
-            3e38,
-            f32::MAX,
-            f32::MIN,
-            f32::INFINITY,
-            f32::NEG_INFINITY,
-            f32::NAN,
-        ],
+        few: vec![0.0, -0.0, 1.0, -0.3, 1e-45, 3e38, MAX, -MAX, INF, -INF, NAN],
         any,
     };
     making(plan, report);
@@ -117,9 +105,9 @@ fn states() -> Vec<State> {
         state(0.0, 0.0, 0.5),
         state(0.25, -0.75, 0.01),
         state(-0.0, 1e-45, 1.0),
-        state(f32::MAX, f32::MIN, 0.0),
-        state(f32::MIN, f32::MAX, 0.75),
-        state(f32::MAX, f32::MIN, 0.01),
+        state(MAX, -MAX, 0.0),
+        state(-MAX, MAX, 0.75),
+        state(MAX, -MAX, 0.01),
         state(1.0, -1.0, -0.0),
         state(0.5, 3e38, f32::MIN_POSITIVE),
     ]
@@ -154,7 +142,7 @@ fn marked(report: &mut Report) {
     let fresh = states()[0];
     let cases: [(&[f32], &[f32], usize); 2] = [
         (&[1.0, 1.0], &[0.5, 0.25], 0),
-        (&[1.0, f32::NAN, 1.0], &[0.5, 0.0, 0.25], 1),
+        (&[1.0, NAN, 1.0], &[0.5, 0.0, 0.25], 1),
     ];
     for (case, (input, outputs, struck)) in cases.into_iter().enumerate() {
         let (_, heard) = MONO.put(&mut calls, fresh, input, 0);

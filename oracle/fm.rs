@@ -2,8 +2,9 @@
 
 use crate::call::{Call, Calls, Judged};
 use crate::feedback::{Face, Way};
+use crate::lent::{N, R, W};
 use crate::original::dsp;
-use crate::patterns::{any_f32, beside_f32, ends_f32};
+use crate::patterns::{any_f32, beside_f32, ends_f32, INF, MAX, NAN};
 use crate::plan::Plan;
 use crate::record::{fields, record, CountedStriking, Record};
 use crate::refusals::{self, Holds, LENGTH, LIMIT, NONE, ROOM, SETTING, STATE};
@@ -22,14 +23,12 @@ record!(
 );
 
 type Answered = CountedStriking<State>;
-type R = *const f32;
-type W = *mut f32;
 
 #[link(name = "threshlantern", kind = "static")]
 extern "C" {
     fn tl_fm_new() -> Answered;
     fn tl_fm_with_deemphasis(state: State, sample_rate: f32, tau: f32) -> Answered;
-    fn tl_fm_process_into(state: State, input: R, n: usize, output: W, m: usize) -> Answered;
+    fn tl_fm_process_into(state: State, input: R, n: N, output: W, m: N) -> Answered;
 }
 
 const NEW: Call = Call::new("fm_new", &[NONE]);
@@ -56,18 +55,7 @@ pub fn compare(plan: &Plan, report: &mut Report) {
         floats: vec![|s| &mut s.last_phase, |s| &mut s.deemph_alpha, |s| {
             &mut s.deemph_state
         }],
-        few: vec![
-            0.0,
-            -0.0,
-            1.0,
-            -1.0,
-            0.3,
-            -1e-45,
-            f32::MAX,
-            f32::INFINITY,
-            f32::NEG_INFINITY,
-            f32::NAN,
-        ],
+        few: vec![0.0, -0.0, 1.0, -1.0, 0.3, -1e-45, MAX, INF, -INF, NAN],
         any,
     };
     new(report);
@@ -87,8 +75,8 @@ fn states() -> Vec<State> {
         State { last_phase: -PI, deemph_alpha: 0.5, ..fresh },
         State { last_phase: -0.0, deemph_alpha: -0.0, deemph_state: -0.0 },
         State { last_phase: 7.0, deemph_alpha: 0.0, deemph_state: 1.0 },
-        State { last_phase: f32::MAX, deemph_alpha: 0.5, deemph_state: f32::MIN },
-        State { last_phase: f32::MIN, deemph_alpha: 0.7, deemph_state: f32::MAX },
+        State { last_phase: MAX, deemph_alpha: 0.5, deemph_state: -MAX },
+        State { last_phase: -MAX, deemph_alpha: 0.7, deemph_state: MAX },
         State { last_phase: 1e-45, deemph_alpha: 1e-45, deemph_state: 1e-45 },
     ]
 }

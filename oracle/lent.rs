@@ -2,6 +2,11 @@
 
 use crate::value::Value;
 
+// A slice in a C face: a pointer to read or to write, and a length.
+pub type R = *const f32;
+pub type W = *mut f32;
+pub type N = usize;
+
 /// An element of a lent slice.
 pub trait Place: Copy {
     const FLOAT: bool;

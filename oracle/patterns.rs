@@ -5,6 +5,10 @@
 
 use crate::rng::Rng;
 
+pub const MAX: f32 = f32::MAX;
+pub const INF: f32 = f32::INFINITY;
+pub const NAN: f32 = f32::NAN;
+
 /// The f32 that stands `by` patterns further on. It may leave the finite numbers, and that is
 /// wanted.
 pub fn beside_f32(x: f32, by: i64) -> f32 {

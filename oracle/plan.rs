@@ -13,7 +13,8 @@ usage: run.sh [numbers | stages] [--seed N] [--count N] [--all] [--plant NAME]
                 ../shared/docs or in the folder that ORIGINAL names
   --seed N      the inputs that the seed N draws (default: from the clock; the first line has it)
   --count N     N random inputs, samples and bytes to the quickest checks, fewer to the slower
-                ones (default 20000000)
+                ones (default 20000000); below a million, one row in nine where every row of a few
+                numbers is tried
   --all         also every f32 to the number work that takes one and is quick, and every cutoff to
                 three taps: some minutes more
   --plant NAME  falsify the library's answers in this way before they are compared, to see that
@@ -26,6 +27,18 @@ pub struct Plan {
     pub seed: u64,
     pub count: u64,
     pub all: bool,
+}
+
+impl Plan {
+    /// Of rows that are tried exhaustively, one in so many. The number work has none.
+    #[allow(dead_code)]
+    pub fn stride(&self) -> usize {
+        if self.count < 1_000_000 {
+            9
+        } else {
+            1
+        }
+    }
 }
 
 /// Reads the words, prints the line with the seed, and lets `compare` do its checks. `plants` are

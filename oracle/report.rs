@@ -66,6 +66,7 @@ impl Check {
 
     #[cold]
     fn off<A: Value>(&mut self, library: A) -> (A, bool) {
+        self.could = true;
         if self.compared % PLANTED != 0 || library.off().same(library) {
             return (library, false);
         }

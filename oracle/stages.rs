@@ -15,6 +15,8 @@ mod steps;
 #[allow(dead_code)]
 mod feedback;
 #[allow(dead_code)]
+mod filters;
+#[allow(dead_code)]
 mod laws;
 #[allow(dead_code)]
 mod lent;
@@ -59,6 +61,7 @@ macro_rules! stages {
 stages! {
     converter
     lowpass
+    decimator
     dc_remover
     agc
     audio_agc

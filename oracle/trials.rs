@@ -28,9 +28,9 @@ pub fn compare<S: Record>(way: &Way<S>, trials: &Trials<S>, plan: &Plan, report:
     faults(way, trials, report, &mut rng);
     lengths(way, trials, report, &mut rng);
     ends(way, trials, report);
-    few(way, trials, report);
-    random(way, trials, report, &mut rng, plan.count / 4);
-    streams(way, trials, report, &mut rng, plan.count / 40_000 + 10);
+    few(way, trials, report, plan.stride());
+    random(way, trials, report, &mut rng, plan.count / 2);
+    streams(way, trials, report, &mut rng, plan.count / 20_000 + 10);
     field_return(way, trials, report, &mut rng);
 }
 
@@ -150,10 +150,10 @@ fn ends<S: Record>(way: &Way<S>, trials: &Trials<S>, report: &mut Report) {
 }
 
 /// Every row of four samples out of a few numbers, from each state.
-fn few<S: Record>(way: &Way<S>, trials: &Trials<S>, report: &mut Report) {
+fn few<S: Record>(way: &Way<S>, trials: &Trials<S>, report: &mut Report, stride: usize) {
     let mut check = calls(way, "rows of a few numbers", &[NONE]);
     for &state in &trials.states {
-        for row in rows(&trials.few, 4) {
+        for row in rows(&trials.few, 4).step_by(stride) {
             way.put(&mut check, state, &row, 4);
         }
     }

@@ -29,7 +29,7 @@ module _ {C S X Y : Type 0} {gives : S → C → Given S Y} {input : C → List 
       (ap {B = List Y} (λ os. out s (input c) ++ os) (calls-outs (end s (input c)) cs rest)
       ∙ sym (cuts .cut-out s (input c) (inputs input cs) (runs .good s c (ok .0))))
 
-  -- and the caller ends where the stream does
+  -- and the last call hands on what the stream ends with
   pub calls-end : (s : S) (cs : List C) → Accepted gives s cs → callEnd gives s cs ≡ end s (inputs input cs)
   calls-end s [] ok = sym (cuts .none-end s)
   calls-end s (c ∷ cs) ok =

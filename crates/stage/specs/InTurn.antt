@@ -1,11 +1,11 @@
 -- A stream handed to a stage call by call, each from the state that the one before handed on. Definitions only.
--- C is a call, S what the caller holds between two calls, X a sample of the input, Y an output.
+-- C is a call, S what is handed from one call to the next, X a sample of the input, Y an output.
 use Prim.Native.Nat.{ℕ}
 use mathlib.Core.Path.{_≡_}
 use mathlib.Core.List.{List, [], _∷_, _++_}
 use Rattle.stage.specs.Refusal.{NONE}
 
--- what a call gives: its number, what it wrote, and what the caller holds then
+-- what a call gives: its number, what it wrote, and what it hands on
 pub record Given (S Y : Type 0) : Type 0 where
   pub refusal : ℕ
   pub out : List Y
@@ -22,7 +22,7 @@ module _ {C S Y : Type 0} (gives : S → C → Given S Y) where
   callOuts s [] = []
   callOuts s (c ∷ cs) = gives s c .out ++ callOuts (gives s c .end) cs
 
-  -- what the caller holds after the last
+  -- what the last hands on
   abbrev pub callEnd : S → List C → S
   callEnd s [] = s
   callEnd s (c ∷ cs) = callEnd (gives s c .end) cs

@@ -1,0 +1,2 @@
+-- Laws of the history's update. Assumes nothing.
+pub mod Over

@@ -1,0 +1,2 @@
+-- Laws of the copy into planes. Assumes nothing.
+pub mod Copied

@@ -1,0 +1,2 @@
+-- Laws of windows that are read from two slices. Assumes nothing.
+pub mod Across
