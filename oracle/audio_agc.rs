@@ -1,5 +1,7 @@
 // The audio AGC against the original's `AudioAgc`.
 
+mod told;
+
 use crate::call::{Call, Calls};
 use crate::feedback::{make, Face, Way};
 use crate::original::dsp;
@@ -7,7 +9,7 @@ use crate::patterns::{any_f32, beside_f32, ends_f32, INF, MAX, NAN};
 use crate::plan::Plan;
 use crate::record::{fields, record, Striking};
 use crate::refusals::{self, HANG, LIMIT, NONE, SETTING, STATE};
-use crate::report::{Bound, Check, Report};
+use crate::report::Report;
 use crate::rng::Rng;
 use crate::trials::{self, any_above_zero, any_finite, any_unit, Trials};
 
@@ -84,8 +86,7 @@ pub fn compare(plan: &Plan, report: &mut Report) {
         any,
     };
     making(plan, report);
-    told(report);
-    hang(report);
+    told::compare(report);
     trials::compare(&PROCESS, &trials, plan, report);
 }
 
@@ -175,14 +176,7 @@ fn making(plan: &Plan, report: &mut Report) {
     }
     // Hang times at the end of the rule, by a product that is exact and by those that are not, and
     // products that overflow though the quotient would not.
-    let times = [
-        16_777_216.0,
-        349_525.34,
-        16_777.216,
-        1e30,
-        0.001,
-        7.0 / 48.0,
-    ];
+    let times = [16_777_216.0, 349_525.34, 16_777.216, 1e30, 0.001, 0.2];
     let rates = [1000.0, 48_000.0, 1e6, 1.0, 1e30, 44_100.0, 0.001];
     for (time, rate) in times.into_iter().flat_map(|t| rates.map(|rate| (t, rate))) {
         for by in -3..=3 {
@@ -199,82 +193,6 @@ fn making(plan: &Plan, report: &mut Report) {
         settings[4] = (rng.unit().abs() * 4e6) as f32;
         settings[round as usize % 6] = any_f32(&mut rng);
         new(&mut calls, settings);
-    }
-    calls.end(report);
-}
-
-/// What is struck and what is not, and the floor of 0 that made a receiver deaf in the field, by
-/// numbers that are written down here.
-#[rustfmt::skip]
-fn told(report: &mut Report) {
-    let mut calls = Calls::new(PROCESS.call, "what is struck", &[NONE, SETTING]);
-    let mut check = Check::new("audio_agc, what is struck, as told", Bound::Exact);
-    let loud = State { gain: 1e30, attack: 0.0, ..USUAL };
-    let dead = State { min_magnitude: MAX, ..loud };
-    let hung = State { target: MAX, min_magnitude: 1e-45, hang_counter: 1, ..USUAL };
-    let past = State { hang_counter: 0, decay: 0.0, ..hung };
-    let cases: [(State, f32, f32, usize); 5] = [
-        (loud, 1e30, 1.0, 0),
-        (loud, -1e30, -1.0, 0),
-        (dead, 1e30, 0.0, 1),
-        (hung, 1e-9, 1e-9, 0),
-        (past, 1e-9, 0.0, 1),
-    ];
-    for (state, sample, out, struck) in cases {
-        let (_, heard) = PROCESS.put(&mut calls, state, &[sample], 0);
-        check.equal((state.gain, sample), heard.struck, struck);
-        check.equal((state.gain, sample), heard.first(), out);
-    }
-    let floor = State { min_magnitude: 0.0, gain: 3.5, hang_counter: 2, ..USUAL };
-    let (state, heard) = PROCESS.put(&mut calls, floor, &[0.0, 0.5], 0);
-    check.equal(0usize, (state.gain, (state.hang_counter, heard.out[1])), (3.5, (2, 0.5)));
-    calls.end(report);
-    report.end_of(check);
-    let mut calls = Calls::new(NEW, "field return: a floor of 0", &[SETTING]);
-    let mut check = Check::new("audio_agc, field return: a floor of 0", Bound::Exact);
-    let mut settings = SETTINGS;
-    settings[5] = 0.0;
-    let made = new(&mut calls, settings);
-    check.equal(0usize, (made.refusal, made.state.gain), (SETTING, 0.0));
-    calls.end(report);
-    report.end_of(check);
-}
-
-/// The stored hang time and its counter, at their ends and with a fault beside them.
-fn hang(report: &mut Report) {
-    let mut calls = Calls::new(PROCESS.call, "hang times", &[NONE, SETTING, STATE, LIMIT]);
-    let times = [
-        0,
-        1,
-        2,
-        3,
-        HANG - 1,
-        HANG,
-        HANG + 1,
-        1 << 32 | 1,
-        usize::MAX,
-    ];
-    let long = vec![0.5; refusals::MOST + 1];
-    for hang_time_samples in times {
-        for by in [-1, 0, 1, 2] {
-            for hang_counter in [0, 1, 2, hang_time_samples.wrapping_add_signed(by)] {
-                for (gain, target, n) in [
-                    (1.0, 0.7, 5),
-                    (NAN, 0.7, 5),
-                    (1.0, 0.0, 5),
-                    (1.0, 0.7, long.len()),
-                ] {
-                    let state = State {
-                        gain,
-                        target,
-                        hang_time_samples,
-                        hang_counter,
-                        ..USUAL
-                    };
-                    PROCESS.put(&mut calls, state, &long[..n], 0);
-                }
-            }
-        }
     }
     calls.end(report);
 }

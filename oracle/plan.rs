@@ -7,6 +7,7 @@ use std::time::{SystemTime, UNIX_EPOCH};
 
 const HELP: &str = "\
 usage: run.sh [numbers | stages] [--seed N] [--count N] [--all] [--plant NAME]
+       run.sh stages --calls
 
   numbers       only the number work, against Rust's own
   stages        only the stages, against the Rust original; its source is looked for in
@@ -19,6 +20,7 @@ usage: run.sh [numbers | stages] [--seed N] [--count N] [--all] [--plant NAME]
                 three taps: some minutes more
   --plant NAME  falsify the library's answers in this way before they are compared, to see that
                 they are found; '--plant list' lists the ways
+  --calls       list the library's calls that are compared
   --help        this text
 
 Exit status: 0 all agree; 1 something differs; 2 bad usage.";
@@ -29,9 +31,10 @@ pub struct Plan {
     pub all: bool,
 }
 
+// The stages' alone.
+#[allow(dead_code)]
 impl Plan {
-    /// Of rows that are tried exhaustively, one in so many. The number work has none.
-    #[allow(dead_code)]
+    /// Of rows that are tried exhaustively, one in so many.
     pub fn stride(&self) -> usize {
         if self.count < 1_000_000 {
             9

@@ -1,12 +1,14 @@
 #!/usr/bin/env bash
 # Plants each wrong answer in turn and sees that the comparison finds it every time: a comparison that cannot
-# fail shows nothing. Words (`--count 1000`) go to the programs. Exit status: 0 all found; 1 one was missed.
+# fail shows nothing. One that no call of the list has a place for, as a struck count where no stage strikes, is
+# not planted, and that is said. Words (`--count 1000`) go to the programs. Exit status: 0 all found; 1 one missed.
 set -eu
 
 root=$(cd "$(dirname "${BASH_SOURCE[0]}")/.." && pwd)
 words=(--seed 1 --count 100000 "$@")
 found=0
 missed=0
+absent=0
 
 for program in numbers stages; do
   rm -f "$root/target/oracle/$program"
@@ -26,13 +28,18 @@ for program in numbers stages; do
     lines=$("$root/target/oracle/$program" "${words[@]}" --plant "$plant") || ended=$?
     told=$(grep "^plant $plant: " <<<"$lines" || true)
     case "$ended $told" in
+      "0 plant $plant: no call here"*) verdict='not planted here' ;;
       *": 0 planted, 0 missed") verdict='MISSED: it fits no call' ;;
       "1 plant $plant: "*" planted, 0 missed") verdict=found ;;
       *) verdict="MISSED: exit status $ended" ;;
     esac
     echo "$program: ${told:-plant $plant}: $verdict"
-    if [ "$verdict" = found ]; then found=$((found + 1)); else missed=$((missed + 1)); fi
+    case "$verdict" in
+      found) found=$((found + 1)) ;;
+      not*) absent=$((absent + 1)) ;;
+      *) missed=$((missed + 1)) ;;
+    esac
   done <<<"$list"
 done
-echo "plants: $found found, $missed missed"
+echo "plants: $found found, $missed missed, $absent not planted here"
 [ "$missed" = 0 ]

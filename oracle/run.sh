@@ -39,10 +39,17 @@ original() {
   "$root/oracle/original.py"
 }
 
+# A call that the archive has and no program compares would say nothing, and fails.
+uncompared() {
+  nm "$root/target/staticlib/libthreshlantern.a" 2>/dev/null | sed -n 's/.* T \(tl_[a-z0-9_]*\)$/\1/p' | sort -u >"$target/exported"
+  { "$target/stages" --calls; grep -o 'tl_[a-z0-9_]*' "$root/oracle/library.rs"; } | sort -u >"$target/compared"
+  comm -23 "$target/exported" "$target/compared"
+}
+
 status=0
+patched=0
 for program in $programs; do
   if [ "$program" = stages ]; then
-    patched=0
     original || patched=$?
     if [ "$patched" = 3 ]; then continue; fi
     if [ "$patched" != 0 ]; then exit 2; fi
@@ -54,4 +61,16 @@ for program in $programs; do
   if [ "$ended" -gt 1 ]; then exit "$ended"; fi
   if [ "$ended" = 1 ]; then status=1; fi
 done
+
+case " $programs $* " in
+  *' --plant '* | *' --calls '*) ;;
+  *' numbers stages '*)
+    if [ "$patched" = 0 ] && command -v nm >/dev/null; then
+      left=$(uncompared)
+      if [ -n "$left" ]; then
+        echo "not compared:" $left
+        status=1
+      fi
+    fi ;;
+esac
 exit "$status"

@@ -49,10 +49,12 @@ use std::process::ExitCode;
 macro_rules! stages {
     ($($stage:ident)+) => {
         $(mod $stage;)+
+        fn calls() -> Vec<call::Call> {
+            [$($stage::CALLS),+].concat()
+        }
         fn compare(plan: &plan::Plan, report: &mut report::Report) {
             $($stage::compare(plan, report);)+
-            let calls = [$($stage::CALLS),+].concat();
-            let calls: Vec<_> = calls.iter().map(|call| (call.name, call.gives)).collect();
+            let calls: Vec<_> = calls().iter().map(|call| (call.name, call.gives)).collect();
             report.numbers(&calls);
         }
     };
@@ -67,9 +69,15 @@ stages! {
     audio_agc
     fm
     am
+    hilbert
+    ssb
     nco
 }
 
 fn main() -> ExitCode {
+    if std::env::args().skip(1).eq(["--calls"]) {
+        calls().iter().for_each(|call| println!("tl_{}", call.name));
+        return ExitCode::SUCCESS;
+    }
     plan::run(&falsify::PLANTS, compare)
 }

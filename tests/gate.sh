@@ -18,6 +18,11 @@ case "$verdict" in
 esac
 
 make --no-print-directory lib
+if [ "$(uname -m)" != x86_64 ]; then
+  echo "gate: the library is compiled for x86-64 and this machine is $(uname -m): the README's example and the comparison with Rust were skipped"
+  echo "$verdict"
+  exit 0
+fi
 tests/readme.sh
 if command -v rustc >/dev/null 2>&1; then
   make --no-print-directory compare

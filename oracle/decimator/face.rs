@@ -44,7 +44,7 @@ pub const PROCESS: Call = Call::new("decimator_process_into", ALL);
 pub const CALLS: &[Call] = &[NEW, WITH, PROCESS, RESET, UPDATE];
 
 /// A whole decimator, as Rust's `self` holds it.
-#[derive(Clone)]
+#[derive(Clone, Default)]
 pub struct Whole {
     pub state: State,
     pub taps: Vec<f32>,
@@ -80,7 +80,7 @@ pub fn make(calls: &mut Calls, factor: usize, cutoff: Option<f32>, taps: usize, 
     let judge = match (refusal, cutoff) {
         (NONE, Some(cutoff)) => Whole::of(dsp::Decimator::new(factor, cutoff, taps)),
         (NONE, None) => Whole::of(dsp::Decimator::with_factor(factor)),
-        _ => Whole::zeros(),
+        _ => Whole::default(),
     };
     let written = vec![bits(&judge.taps), bits(&judge.history)];
     let judge = Judged::new(judge.state.answer(refusal, 0), written);
@@ -106,15 +106,6 @@ impl Whole {
             state: State { factor, phase },
             taps: taps.to_vec(),
             history: history.to_vec(),
-        }
-    }
-
-    fn zeros() -> Whole {
-        let (state, taps, history) = Default::default();
-        Whole {
-            state,
-            taps,
-            history,
         }
     }
 
@@ -162,7 +153,7 @@ impl Whole {
         let mut holds = self.holds();
         holds.setting |= !cutoff.is_none_or(refusals::cutoff);
         let refusal = holds.first();
-        let mut now = Whole::zeros();
+        let mut now = Whole::default();
         now.state = s;
         if refusal == NONE {
             let mut original = self.original();
@@ -206,7 +197,7 @@ impl Filter for Whole {
         }
         .first();
         let given = self.state.fields();
-        let (mut now, mut out) = (Whole::zeros(), Vec::new());
+        let (mut now, mut out) = (Whole::default(), Vec::new());
         let mut state = self.state;
         // An empty block leaves even a NaN of the history as it is.
         if refusal == NONE && !input.is_empty() {

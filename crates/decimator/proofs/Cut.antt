@@ -7,10 +7,9 @@ use mathlib.Core.List.{List, [], _∷_, _++_}
 use lib.ListN.{length, take}
 use lib.Seq.{take-at}
 use lib.Ieee.{Float}
-use Rattle.stage.specs.Refusal.{unless}
 use Rattle.stage.proofs.InTurn.{Cuttable, Runs, calls-outs, calls-end, any-calls}
 use Rattle.stage.proofs.Filling.{length-counted}
-use Rattle.stage.proofs.Refusals.{run-gives}
+use Rattle.stage.proofs.Refusals.{run-gives, answers-none}
 use Rattle.fir.specs.Filter.{Memory, countOf, outputs, filterOuts, filterEnd}
 use Rattle.fir.specs.Dot.{everyTap}
 use Rattle.fir.proofs.Cut.{outs-of-none, end-of-none, outs-cut, end-cut}
@@ -22,11 +21,6 @@ use Rattle.decimator.specs.declared.Decimated.{Decimated}
 use Rattle.decimator.proofs.Accepting.{process-sound}
 
 -- ---- one call
-
-numbered : (n : ℕ) (run : Decimated × List Float × List Float) (d : Decimator) (h o : List Float) → run .0 .refusal ≡ 0
-    → unless n run (answer n d 0, h, o) .0 .refusal ≡ n
-numbered zero run d h o e = e
-numbered (suc n) run d h o e = refl
 
 module _ (taps : List Float) where
   -- what an accepted call knows
@@ -41,7 +35,9 @@ module _ (taps : List Float) where
     -- its number is 0
     none : numberOf s c ≡ 0
     unfolding numberOf
-    none = sym (numbered (numberOf s c) (accepted (s .state) taps (s .history) (c .input) (c .output)) (s .state) (s .history) (c .output) refl) ∙ ok
+    none =
+        let number = numberOf s c in
+        answers-none (λ r. r .0 .refusal) number (accepted (s .state) taps (s .history) (c .input) (c .output)) (answer number (s .state) 0, s .history, c .output) refl ok
 
     pub good : Good s
     unfolding numberOf

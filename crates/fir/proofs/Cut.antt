@@ -11,7 +11,7 @@ use Rattle.stage.specs.Counted.{countedFrom}
 use Rattle.stage.proofs.InTurn.{Cuttable}
 use Rattle.stage.proofs.Counted.{counted-same, counted-cut}
 use Rattle.fir.specs.Filter.{Filter, Memory, countOf, nextPhase, kept, outputAt, outputs, filterOuts, filterEnd}
-use Rattle.fir.proofs.Counting.{count-none, phase-drops, count-in, count-out, count-cut, phase-cut, phase-of-each}
+use Rattle.fir.proofs.Counting.{count-none, phase-drops, count-in, count-out, count-cut, phase-cut}
 
 -- ---- the history
 
@@ -120,27 +120,3 @@ module _ {X Y : Type 0} (f : Filter X Y) where
     -- so a filter's run can be cut, into blocks and calls of any number
     pub filter-cuts : Cuttable Fits (filterOuts f) (filterEnd f)
     filter-cuts = record { none-out = outs-of-none; none-end = end-of-none; cut-out = outs-cut; cut-end = end-cut }
-
--- ---- the same of a filter with an output for each sample, whose phase is always 0
-
-module _ {X Y : Type 0} (f : Filter X Y) (each : f .factor ≡ 1) where
-  at-0 : List X → Memory X
-  at-0 h = record { phase = 0; history = h }
-
-  still-0 : (h a : List X) → filterEnd f (at-0 h) a ≡ at-0 (kept h a)
-  unfolding at-0
-  still-0 h a i = record { phase = (ap (λ (d : ℕ). nextPhase d 0 (length a)) each ∙ phase-of-each (length a)) i; history = kept h a }
-
-  some : 0 < f .factor
-  some = rw each (omega arith)
-
-  pub each-cuts : Cuttable (λ h. f .taps ≡ length h + 1) (λ h x. filterOuts f (record { phase = 0; history = h }) x) kept
-  unfolding at-0
-  each-cuts =
-      record {
-        none-out = λ h. outs-of-none f (at-0 h);
-        none-end = λ h. ap {B = List X} (λ m. m .history) (end-of-none f (at-0 h));
-        cut-out = λ h a b fit.
-            outs-cut f some (at-0 h) a b fit ∙ ap {B = List Y} (λ m. filterOuts f (at-0 h) a ++ filterOuts f m b) (still-0 h a);
-        cut-end = λ h a b fit. kept-cut h a b;
-      }

@@ -35,6 +35,11 @@ pub run-gives : {X : Type 0} (n : ℕ) (run refused : X) → n ≡ NONE → run 
 run-gives zero run refused h = refl
 run-gives (suc n) run refused h = absurd (omega arith)
 
+-- a call that answers its number when it is refused, and answered 0, was not
+pub answers-none : {X : Type 0} (numberIn : X → ℕ) (n : ℕ) (run refused : X) → numberIn refused ≡ n → numberIn (unless n run refused) ≡ NONE → n ≡ NONE
+answers-none numberIn zero run refused e ok = refl
+answers-none numberIn (suc n) run refused e ok = sym e ∙ ok
+
 -- the same of a call that answers its number n beside what it leaves
 module _ {X : Type 0} (n number : ℕ) (run was : X) (e : n ≡ number) where
   pub run-answers : (left : X) → left ≡ run → n ≡ NONE → (n, left) ≡ answered number run was

@@ -9,3 +9,4 @@ pub mod filters;
 pub mod levels;
 pub mod numbers;
 pub mod oscillator;
+pub mod sidebands;

@@ -1,0 +1,2 @@
+-- What the Hilbert filter leaves where SSB calls it.
+pub mod Summing

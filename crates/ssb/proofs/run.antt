@@ -1,0 +1,2 @@
+-- The loop over a block's chunks.
+pub mod Chunks
