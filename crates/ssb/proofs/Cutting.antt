@@ -6,14 +6,13 @@ use mathlib.Core.List.{List, [], _++_}
 use lib.ListN.{length}
 use lib.Ieee.{Float}
 use Rattle.stage.specs.Layout.{firsts, seconds}
-use Rattle.stage.proofs.Layouts.{firsts-append, seconds-append}
+use Rattle.stage.proofs.Layouts.{firsts-append, seconds-append, length-firsts, length-seconds}
 use Rattle.stage.proofs.InTurn.{Cuttable}
 use Rattle.fir.specs.Filter.{kept}
 use Rattle.fir.specs.Dot.{oddTaps}
 use Rattle.fir.specs.Each.{eachOuts}
 use Rattle.fir.proofs.Each.{each-length, each-cuts}
 use Rattle.ssb.specs.Sideband.{Histories, histories, delay, mixed, ssbOuts, ssbEnd}
-use Rattle.ssb.proofs.Halves.{length-firsts, length-seconds}
 use Rattle.ssb.proofs.mixing.Mixed.{mixed-length, mixed-append}
 
 -- histories that fit: of Q taps less one, of I 32

@@ -9,6 +9,7 @@ use mathlib.Core.List.{List, [], _∷_}
 use lib.ListN.{length, getD}
 use lib.Ieee.{Float, nan}
 use Rattle.stage.specs.Layout.{firsts, seconds}
+use Rattle.stage.proofs.Layouts.{length-firsts, length-seconds}
 use Rattle.fir.specs.Dot.{oddTaps}
 use Rattle.fir.specs.Each.{eachOuts}
 use Rattle.fir.specs.Damage.{DifferWithin, Unseen}
@@ -16,7 +17,7 @@ use Rattle.fir.proofs.Each.{each-passes, each-forgotten}
 use Rattle.ssb.specs.Answers.{forSideband}
 use Rattle.ssb.specs.Sideband.{Histories, histories, delay, ssbOuts, ssbEnd}
 use Rattle.ssb.specs.Stream.{Call, handed, streamOf, AllAccepted, calledOuts, calledEnd, freshFor}
-use Rattle.ssb.proofs.Halves.{length-firsts, length-seconds, differ-firsts, differ-seconds}
+use Rattle.ssb.proofs.Halves.{differ-firsts, differ-seconds}
 use Rattle.ssb.proofs.mixing.Mixed.{same-mixed}
 use Rattle.ssb.proofs.Cutting.{Fits, i-length, q-length}
 use Rattle.ssb.proofs.Cut.{obeys, cut}

@@ -1,4 +1,4 @@
--- I and Q of pairs: as many as the pairs, and of streams that differ at some positions they differ at no others. Assumes nothing.
+-- I and Q of two streams of pairs that differ at some positions differ at no others. Assumes nothing.
 use Prim.Native.Nat.{ℕ, zero, suc}
 use mathlib.Core.Path.{_≡_, refl, sym, ap, _∙_}
 use mathlib.Core.List.{List, [], _∷_, map}
@@ -33,12 +33,6 @@ module _ {X : Type 0} where
   seconds-map : (ps : List (X × X)) → seconds ps ≡ map (λ p. p .1) ps
   seconds-map [] = refl
   seconds-map (p ∷ ps) = ap {B = List X} (λ r. p .1 ∷ r) (seconds-map ps)
-
-  pub length-firsts : (ps : List (X × X)) → length (firsts ps) ≡ length ps
-  length-firsts ps = rw firsts-map (length-map ps (λ p. p .0))
-
-  pub length-seconds : (ps : List (X × X)) → length (seconds ps) ≡ length ps
-  length-seconds ps = rw seconds-map (length-map ps (λ p. p .1))
 
   pub differ-firsts : (a b : ℕ) (x y : List (X × X)) → DifferWithin a b x y → DifferWithin a b (firsts x) (firsts y)
   differ-firsts a b x y d = rw (firsts-map x, firsts-map y) (differ-map (λ p. p .0) a b x y d)

@@ -2,7 +2,7 @@
 ghost use mathlib.Core.Path.{_≡_};
 ghost use Prim.Native.Nat.{_+_, _≤_};
 ghost use lib.ListN.{length};
-ghost use Rattle.stage.specs.Layout.{pairs, firsts, seconds};
+ghost use Rattle.stage.specs.Layout.{pairs};
 ghost use Rattle.ssb.specs.Sideband.{histories, ssbOuts, ssbEnd};
 ghost use Rattle.ssb.specs.Ready.{Ready};
 
@@ -52,21 +52,8 @@ fn demodulate(
     ensures { λ _. ⌜ now (output .exit) ≡ ssbOuts «is_usb» (now (taps .entry)) (histories (now («q_history» .entry)) (now («i_history» .entry))) (pairs (now (input .entry))) ⌝ }
     ensures { λ _. ⌜ histories (now («q_history» .exit)) (now («i_history» .exit)) ≡ ssbEnd (histories (now («q_history» .entry)) (now («i_history» .entry))) (pairs (now (input .entry))) ⌝ }
 {
-    split(input, i, q);
+    halves::split(input, i, q);
     hilbert::HilbertFilter::process_into(taps, q_history, q, output);
     crate::mixing::mix_delayed(is_usb, i_history, i, output);
     fir::keep(i_history, i);
-}
-
-// I and Q of interleaved pairs.
-fn split(input: &[f32], i: &mut [f32], q: &mut [f32])
-    requires { ⌜ (length (now input) ≡ length (now i) + length (now i)) × (length (now q) ≡ length (now i)) ⌝ }
-    ensures { λ _. ⌜ (now (i .exit) ≡ firsts (pairs (now (input .entry)))) × (now (q .exit) ≡ seconds (pairs (now (input .entry)))) ⌝ }
-{
-    let mut k = 0;
-    while k < i.len() {
-        i[k] = input[2 * k];
-        q[k] = input[2 * k + 1];
-        k += 1;
-    }
 }

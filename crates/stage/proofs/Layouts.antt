@@ -1,5 +1,5 @@
 -- Laws of the layouts: an interleaved list and its pairs, two lists side by side, and how each goes over a cut. Assumes nothing.
-use Prim.Native.Nat.{ℕ, suc, _+_, _/_, _%_, _<_}
+use Prim.Native.Nat.{ℕ, suc, _+_, _*_, _/_, _%_, _<_}
 use native.Mathlib.Numerals.{add-one}
 use native.Mathlib.Omega.{arith}
 use mathlib.Core.Path.{_≡_, refl, ap}
@@ -80,3 +80,22 @@ module _ {X : Type 0} where
   pub seconds-append : (ps qs : List (X × X)) → seconds (ps ++ qs) ≡ seconds ps ++ seconds qs
   seconds-append [] qs = refl
   seconds-append (p ∷ ps) qs = ap {B = List X} (λ r. p .1 ∷ r) (seconds-append ps qs)
+
+  -- ---- how many
+
+  pub length-firsts : (ps : List (X × X)) → length (firsts ps) ≡ length ps
+  length-firsts [] = refl
+  length-firsts (p ∷ ps) = ap suc (length-firsts ps)
+
+  pub length-seconds : (ps : List (X × X)) → length (seconds ps) ≡ length ps
+  length-seconds [] = refl
+  length-seconds (p ∷ ps) = ap suc (length-seconds ps)
+
+  pub length-zip : (xs ys : List X) → length ys ≡ length xs → length (zip xs ys) ≡ length xs
+  length-zip [] ys e = refl
+  length-zip (x ∷ xs) [] e = absurd (omega arith)
+  length-zip (x ∷ xs) (y ∷ ys) e = ap suc (length-zip xs ys (omega arith))
+
+  pub length-flat : (ps : List (X × X)) → length (flat ps) ≡ 2 * length ps
+  length-flat [] = refl
+  length-flat (p ∷ ps) = omega (arith, length-flat ps)

@@ -4,6 +4,7 @@ use native.Mathlib.Omega.{arith}
 use mathlib.Core.Path.{_≡_, refl, sym, ap, _∙_}
 use denote.Ref.{now}
 use lib.ListN.{length}
+use Rattle.halves.proofs.Lengths.{apart-gives}
 use Rattle.ssb.specs.Sideband.{ssbOuts}
 use Rattle.ssb.proofs.chunk.Summing.{summed}
 use borrow.Author.Needs.{needs}
@@ -51,7 +52,7 @@ returns c =
     let fill : length (now (a .output)) ≡ length q = omega (arith, s .split .kept, e .pre) in
     let w = summed (now (a .taps)) (now (a .q-history)) q (now (a .output)) (e .pre .0 .sixty-five) (e .pre .0 .sixty-four) short fill
     (p .process-into .result) (p .process-into .last .1 .0) (p .process-into .last .1 .1 .1 .0) (p .process-into .ensures) in
-    let apart = s .split .ensures in (
+    let apart = apart-gives (now (a .input)) (now (a .i)) (now (a .q)) (s .split .last .1 .0) q (omega (arith, e .pre)) (omega (arith, e .pre)) (s .split .ensures) in (
       d .mix-delayed .ensures ∙ rw (w .1, apart .0, apart .1),
       rw (w .0, k .keep .ensures, apart .0, apart .1),
     )

@@ -1,18 +1,17 @@
--- `ssb::chunk::split` meets its contract. The loop's invariant: the first k places hold I and Q of the first k pairs, and those of the rest are
+-- `halves::take_apart` meets its contract. The loop's invariant: the first k places hold I and Q of the first k pairs, and those of the rest are
 -- to come. The measure is the places left. Assumes nothing.
 use Prim.Native.Nat.{_+_, _-_, _*_, _≤_, _<_}
 use native.Mathlib.Omega.{arith}
-use mathlib.Core.Path.{_≡_, refl, sym, ap, _∙_}
+use mathlib.Core.Path.{_≡_, refl}
 use denote.Ref.{now}
 use lib.ListN.{length, drop, length-set, drop-of-length-le}
 use lib.Ieee.{nan}
 use Rattle.stage.specs.Layout.{pairs, firsts, seconds}
-use Rattle.stage.proofs.Layouts.{pairs-drop, length-pairs}
+use Rattle.stage.proofs.Layouts.{pairs-drop, length-pairs, length-firsts, length-seconds}
 use Rattle.stage.proofs.Filling.{Filling, filling-begins, filling-turns, filling-ends}
-use Rattle.ssb.proofs.Halves.{length-firsts, length-seconds}
 use borrow.Author.Needs.{needs}
-use Rattle.ssb.proofs.chunk.split.Statement.{statement}
-use Rattle.ssb.proofs.chunk.split.Tie as tie
+use Rattle.halves.proofs.take_apart.Statement.{statement}
+use Rattle.halves.proofs.take_apart.Tie as tie
 
 abbrev Inv-loop : tie.InvT-loop
 Inv-loop input i₀ q₀ k₀ i q k =
@@ -103,8 +102,8 @@ returns c =
     let past : length x ≤ 2 * l .k = omega arith in
     (filling-ends (rw (drop-of-length-le x past) at (l .inv .3)), filling-ends (rw (drop-of-length-le x past) at (l .inv .4)))
 
-pub split-spec : {M : Type 1} → statement M
-split-spec =
+pub take-apart-spec : {M : Type 1} → statement M
+take-apart-spec =
     tie.close
     (tie.spec
     Inv-loop
