@@ -1,12 +1,14 @@
 #!/usr/bin/env bash
-# The gate. Layout, then everything proved from nothing with the must-fail edits and the programs, then the
+# The gate. Layout and docs/PROMISES.md, then everything proved from nothing with the must-fail edits and the programs, then the
 # README's example, then the comparison with Rust where rustc is at hand, and planted errors that it must find.
 # The last line is that of `rt ci`: N passed, 0 failed.
 set -euo pipefail
 cd "$(dirname "$0")/.."
-tests/need.sh rt
+tests/need.sh rt python3
 
 rt fmt --check
+tests/promises.py
+tests/promises.py --plants
 
 log=$(mktemp)
 trap 'rm -f "$log"' EXIT

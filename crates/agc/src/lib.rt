@@ -4,8 +4,8 @@
 // answer travel by value. `specs/Gain.antt` has the gain after a pair, `specs/Step.antt` the step,
 // `specs/State.antt` what is demanded of a state, and a fresh one, `specs/Process.antt` what a call gives,
 // accepted or refused, `specs/Cases.antt` worked values. proofs/ shows that cutting a stream into calls and
-// dropping the struck pairs change nothing else, that no call makes a state that a later one refuses, and
-// that no second answer meets a contract. No function here has a `requires`.
+// dropping the struck pairs change nothing else, and that no call makes a state that a later one refuses. No
+// function here has a `requires`.
 mod process;
 mod step;
 

@@ -6,5 +6,3 @@ pub mod Streams
 pub mod Struck
 -- no later call refuses a state that an accepted one gave
 pub mod Stays
--- no second answer meets a contract
-pub mod Only

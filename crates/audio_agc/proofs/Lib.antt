@@ -10,5 +10,3 @@ pub mod Struck
 pub mod FieldReturn
 -- no later call refuses a state that an accepted one gave
 pub mod Stays
--- no second answer meets a contract
-pub mod Only

@@ -6,8 +6,8 @@
 // `specs/Step.antt` the step, `specs/State.antt` what is demanded of a state, `specs/Made.antt` a fresh one
 // and the rule on the hang time, `specs/Process.antt` what a call gives, accepted or refused, `specs/Cases.antt`
 // worked values. proofs/ shows that cutting a stream into calls and dropping the struck samples change
-// nothing else, that a burst of bad samples leaves no trace, that no call makes a state that a later one
-// refuses, and that no second answer meets a contract. No function here has a `requires`.
+// nothing else, that a burst of bad samples leaves no trace, and that no call makes a state that a later one
+// refuses. No function here has a `requires`.
 mod level;
 mod made;
 mod process;

@@ -6,7 +6,5 @@ pub mod Streams
 pub mod Struck
 -- no later call refuses a state that an accepted one gave
 pub mod Stays
--- no second answer meets a contract
-pub mod Only
 -- the order of the sum in the Rust's `process_split`
 pub mod Order

@@ -4,8 +4,8 @@
 // and an answer travel by value. `specs/Step.antt` has the step, `specs/State.antt` what is demanded of a
 // state, and a fresh one, `specs/Process.antt` what the three calls give, accepted or refused,
 // `specs/Cases.antt` the marked cases 8 and 9. proofs/ shows that cutting a stream into calls and dropping
-// the struck samples change nothing else, that no call makes a state that a later one refuses, and that no
-// second answer meets a contract. No function here has a `requires`.
+// the struck samples change nothing else, and that no call makes a state that a later one refuses. No function
+// here has a `requires`.
 mod process;
 mod step;
 
