@@ -1,6 +1,6 @@
 # Threshlantern: what can be done from here. `make help` prints the lines below that have two hashes.
 .DEFAULT_GOAL := help
-.PHONY: help test lib compare plants fmt clean
+.PHONY: help test lib compare plants bench fmt clean
 
 help: ## what there is
 	@echo 'Threshlantern: a proved signal path. The commands:'
@@ -18,6 +18,9 @@ compare: lib ## hold the library against Rust's own and the Rust original on mil
 
 plants: lib ## see that the comparison finds every kind of wrong answer that is planted in it
 	@oracle/plants.sh $(ARGS)
+
+bench: lib ## the library's speed beside the Rust original, in one run (ARGS='--rounds 200 FM')
+	@bench/run.sh $(ARGS)
 
 fmt: ## lay the Rattle sources and proofs out as the gate wants them
 	@tests/need.sh rt

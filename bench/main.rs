@@ -1,0 +1,58 @@
+// The speed of the library beside the Rust original, in one process: least of many rounds, the two in turn.
+
+mod face;
+mod original;
+mod work;
+
+use std::time::Instant;
+use work::{Side, ELEMENTS};
+
+const HELP: &str = "\
+usage: run.sh [--rounds N] [NAME ...]
+
+  --rounds N    so many rounds for each kind of work (default 60); the least time of them counts
+  NAME          only the work whose name begins so
+
+A ratio of 2 says that the library takes half the original's time.";
+
+/// The time of one round, in nanoseconds for an element: all elements in blocks of this size. What the round works on is
+/// put in place before the clock starts.
+fn round(side: &mut dyn Side, block: usize) -> f64 {
+    side.ready();
+    let start = Instant::now();
+    side.run(block);
+    start.elapsed().as_nanos() as f64 / ELEMENTS as f64
+}
+
+fn main() {
+    let mut rounds = 60;
+    let mut names = Vec::new();
+    let mut words = std::env::args().skip(1);
+    while let Some(word) = words.next() {
+        match word.as_str() {
+            "--rounds" => rounds = words.next().and_then(|n| n.parse().ok()).expect("--rounds wants a number"),
+            "--help" => {
+                println!("{HELP}");
+                return;
+            }
+            _ => names.push(word),
+        }
+    }
+    println!("{:<36}{:>22}   {:>22}", "", "blocks of 262,144", "blocks of 2,048");
+    println!("{:<36}{:>8}{:>8}{:>6}   {:>8}{:>8}{:>6}", "ns an element", "Rust", "here", "ratio", "Rust", "here", "ratio");
+    for mut work in work::all() {
+        if !names.is_empty() && !names.iter().any(|name| work.name.starts_with(name.as_str())) {
+            continue;
+        }
+        print!("{:<36}", work.name);
+        for block in [ELEMENTS, 2048] {
+            let (mut theirs, mut ours) = (f64::MAX, f64::MAX);
+            for _ in 0..rounds {
+                theirs = theirs.min(round(&mut *work.theirs, block));
+                ours = ours.min(round(&mut *work.ours, block));
+            }
+            print!("{theirs:>8.2}{ours:>8.2}{:>6.2}   ", theirs / ours);
+        }
+        println!();
+    }
+}
