@@ -13,10 +13,10 @@ use Rattle.stage.specs.Layout.{over}
 use Rattle.stage.proofs.Both.{both}
 use Rattle.stage.proofs.Refusals.{met}
 use Rattle.lowpass.specs.Rules.{tapsAllowed, cutoffAllowed}
-use Rattle.fir.specs.Filter.{countOf, filterOuts}
+use Rattle.fir.specs.Filter.{historyFits, countOf, filterOuts}
 use Rattle.fir.specs.Dot.{everyTap}
 use Rattle.fir.specs.Into.{fits, filteredInto}
-use Rattle.decimator.specs.Rules.{factorAllowed, stateAllowed, historyFits}
+use Rattle.decimator.specs.Rules.{factorAllowed, stateAllowed}
 use Rattle.decimator.specs.Making.{newRefusal, withFactorRefusal}
 use Rattle.decimator.specs.Process.{memory, processRefusal}
 use Rattle.decimator.specs.Settling.{updateRefusal}

@@ -8,9 +8,10 @@ use lib.ListN.{length, replicate}
 use lib.Ieee.{Float, binary32, ofBits, ofInt, div}
 use Rattle.stage.specs.Refusal.{NONE, refusalNo, unless}
 use Rattle.stage.specs.Floats.{plusZero}
+use Rattle.fir.specs.Filter.{historyFits}
 use Rattle.lowpass.specs.Rules.{tapsAllowed, cutoffAllowed}
 use Rattle.lowpass.specs.Lowpass.{lowpass}
-use Rattle.decimator.specs.Rules.{factorAllowed, historyFits}
+use Rattle.decimator.specs.Rules.{factorAllowed}
 use Rattle.decimator.specs.Answers.{answer, fresh, none}
 use Rattle.decimator.specs.declared.Decimated.{Decimated}
 

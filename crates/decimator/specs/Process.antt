@@ -8,9 +8,9 @@ use lib.Ieee.{Float}
 use Rattle.stage.specs.Refusal.{NONE, refusalNo, unless}
 use Rattle.stage.specs.Length.{isWithin}
 use Rattle.stage.specs.Layout.{over}
-use Rattle.fir.specs.Filter.{Memory, countOf, filterOuts, filterEnd}
+use Rattle.fir.specs.Filter.{historyFits, Memory, countOf, filterOuts, filterEnd}
 use Rattle.fir.specs.Dot.{everyTap}
-use Rattle.decimator.specs.Rules.{stateAllowed, historyFits}
+use Rattle.decimator.specs.Rules.{stateAllowed}
 use Rattle.decimator.specs.Answers.{answer, at}
 use Rattle.decimator.specs.declared.Decimator.{Decimator}
 use Rattle.decimator.specs.declared.Decimated.{Decimated}

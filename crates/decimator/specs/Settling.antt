@@ -6,9 +6,10 @@ use lib.ListN.{length, replicate}
 use lib.Ieee.{Float}
 use Rattle.stage.specs.Refusal.{NONE, refusalNo, unless}
 use Rattle.stage.specs.Floats.{plusZero}
+use Rattle.fir.specs.Filter.{historyFits}
 use Rattle.lowpass.specs.Rules.{cutoffAllowed}
 use Rattle.lowpass.specs.Lowpass.{lowpass}
-use Rattle.decimator.specs.Rules.{stateAllowed, historyFits}
+use Rattle.decimator.specs.Rules.{stateAllowed}
 use Rattle.decimator.specs.Answers.{answer, fresh}
 use Rattle.decimator.specs.declared.Decimator.{Decimator}
 use Rattle.decimator.specs.declared.Decimated.{Decimated}

@@ -22,7 +22,7 @@ impl Decimator {
                 & lowpass::taps_allowed(taps.len()),
             true,
             true,
-            crate::rules::history_fits(taps, history),
+            fir::history_fits(taps, history),
             true,
         );
         if number != stage::NONE {
@@ -40,7 +40,7 @@ impl Decimator {
             crate::rules::factor_allowed(factor) & lowpass::taps_allowed(taps.len()),
             true,
             true,
-            crate::rules::history_fits(taps, history) & twelvefold(factor, taps.len()),
+            fir::history_fits(taps, history) & twelvefold(factor, taps.len()),
             true,
         );
         if number != stage::NONE {

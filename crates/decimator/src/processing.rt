@@ -25,7 +25,7 @@ impl Decimator {
             crate::rules::state_allowed(self, taps.len()),
             true,
             stage::within(n),
-            crate::rules::history_fits(taps, history),
+            fir::history_fits(taps, history),
             count <= output.len(),
         );
         if number != stage::NONE {

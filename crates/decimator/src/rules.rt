@@ -1,9 +1,8 @@
-// The rules on a decimator's settings and on the length of its history.
+// The rules on a decimator's settings, and the answers without outputs.
 use crate::Decimated;
 use crate::Decimator;
 ghost use mathlib.Core.Path.{_≡_};
-ghost use lib.ListN.{length};
-ghost use Rattle.decimator.specs.Rules.{factorAllowed, stateAllowed, historyFits};
+ghost use Rattle.decimator.specs.Rules.{factorAllowed, stateAllowed};
 ghost use Rattle.decimator.specs.Answers.{answer, none};
 
 // Whether the factor is from 2 to 64.
@@ -18,13 +17,6 @@ pub(crate) fn state_allowed(d: Decimator, taps: usize) -> bool
     ensures { λ r. ⌜ r ≡ stateAllowed d taps ⌝ }
 {
     factor_allowed(d.factor) & (d.phase < d.factor) & lowpass::taps_allowed(taps)
-}
-
-// Whether the history has one place less than there are taps.
-pub(crate) fn history_fits(taps: &[f32], history: &[f32]) -> bool
-    ensures { λ r. ⌜ r ≡ historyFits (length (now (taps .entry))) (length (now (history .entry))) ⌝ }
-{
-    history.len() + 1 == taps.len()
 }
 
 // The answer of a call that gives no output.

@@ -14,7 +14,7 @@ impl Decimator {
             crate::rules::state_allowed(self, taps.len()),
             true,
             true,
-            crate::rules::history_fits(taps, history),
+            fir::history_fits(taps, history),
             true,
         );
         if number != stage::NONE {
@@ -40,7 +40,7 @@ impl Decimator {
             crate::rules::state_allowed(self, taps.len()) & lowpass::cutoff_allowed(cutoff),
             true,
             true,
-            crate::rules::history_fits(taps, history),
+            fir::history_fits(taps, history),
             true,
         );
         if number != stage::NONE {

@@ -1,7 +1,9 @@
 -- A filter: each output is taken from a window of the samples, and the windows lie `factor` apart.
 -- X is a sample, or a pair of them, and Y what is put out for a window. Definitions only.
 use Prim.Native.Nat.{ℕ, _+_, _-_, _*_, _/_}
+use mathlib.Core.Bool.{Bool}
 use mathlib.Core.List.{List, _++_}
+use lib.Dec.{eqb}
 use lib.ListN.{length, take, drop}
 use Rattle.stage.specs.Counted.{counted}
 
@@ -17,6 +19,10 @@ countOf factor phase n = (n - phase + (factor - 1)) / factor
 -- how many samples of the next block come before its first output; a block not longer than phase gives none, and phase drops by n
 unfoldable pub nextPhase : ℕ → ℕ → ℕ → ℕ
 nextPhase factor phase n = phase + countOf factor phase n * factor - n
+
+-- a history is taps less one
+abbrev pub historyFits : ℕ → ℕ → Bool
+historyFits taps history = eqb (history + 1) taps
 
 -- the history after a block: the last of history and input in a row, as many as before
 unfoldable pub kept : {X : Type 0} → List X → List X → List X

@@ -4,7 +4,14 @@ ghost use mathlib.Core.List.{_++_};
 ghost use Prim.Native.Nat.{_-_, _≤_};
 ghost use lib.ListN.{length, drop, replicate};
 ghost use Rattle.stage.specs.Floats.{plusZero};
-ghost use Rattle.fir.specs.Filter.{kept};
+ghost use Rattle.fir.specs.Filter.{historyFits, kept};
+
+// Whether the history has one place less than there are taps.
+pub fn history_fits(taps: &[f32], history: &[f32]) -> bool
+    ensures { λ r. ⌜ r ≡ historyFits (length (now (taps .entry))) (length (now (history .entry))) ⌝ }
+{
+    history.len() + 1 == taps.len()
+}
 
 // The history after a block: the last of history and input in a row. A copy where the block is at least as long,
 // else a shift down and a copy behind it, so that a short block keeps older samples.

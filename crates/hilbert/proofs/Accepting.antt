@@ -11,11 +11,12 @@ use Rattle.stage.specs.Length.{isWithin}
 use Rattle.stage.specs.Layout.{over}
 use Rattle.stage.proofs.Both.{both}
 use Rattle.stage.proofs.Refusals.{met}
+use Rattle.fir.specs.Filter.{historyFits}
 use Rattle.fir.specs.Each.{eachOuts}
 use Rattle.fir.specs.Dot.{oddTaps}
 use Rattle.fir.specs.Into.{fitsOdd, filteredOddInto}
 use Rattle.fir.proofs.Counting.{count-of-each}
-use Rattle.hilbert.specs.Rules.{tapsAllowed, historyFits}
+use Rattle.hilbert.specs.Rules.{tapsAllowed}
 use Rattle.hilbert.specs.Making.{newRefusal}
 use Rattle.hilbert.specs.Process.{processRefusal}
 

@@ -6,7 +6,8 @@ use lib.ListN.{length, replicate}
 use lib.Ieee.{Float}
 use Rattle.stage.specs.Refusal.{NONE, refusalNo, unless}
 use Rattle.stage.specs.Floats.{plusZero}
-use Rattle.hilbert.specs.Rules.{tapsAllowed, historyFits}
+use Rattle.fir.specs.Filter.{historyFits}
+use Rattle.hilbert.specs.Rules.{tapsAllowed}
 use Rattle.hilbert.specs.Taps.{hilbertTaps}
 use Rattle.hilbert.specs.Answers.{answer}
 use Rattle.hilbert.specs.declared.HilbertDone.{HilbertDone}

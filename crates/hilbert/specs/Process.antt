@@ -8,10 +8,10 @@ use lib.Ieee.{Float}
 use Rattle.stage.specs.Refusal.{NONE, refusalNo, unless}
 use Rattle.stage.specs.Length.{isWithin}
 use Rattle.stage.specs.Layout.{over}
-use Rattle.fir.specs.Filter.{kept}
+use Rattle.fir.specs.Filter.{historyFits, kept}
 use Rattle.fir.specs.Each.{eachOuts}
 use Rattle.fir.specs.Dot.{oddTaps}
-use Rattle.hilbert.specs.Rules.{tapsAllowed, historyFits}
+use Rattle.hilbert.specs.Rules.{tapsAllowed}
 use Rattle.hilbert.specs.Answers.{answer}
 use Rattle.hilbert.specs.declared.HilbertDone.{HilbertDone}
 

@@ -15,7 +15,7 @@ impl HilbertFilter {
             crate::rules::taps_allowed(taps.len()),
             true,
             true,
-            crate::rules::history_fits(taps, history),
+            fir::history_fits(taps, history),
             true,
         );
         if number != stage::NONE {

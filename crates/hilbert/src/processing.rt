@@ -20,7 +20,7 @@ impl HilbertFilter {
             crate::rules::taps_allowed(taps.len()),
             true,
             stage::within(input.len()),
-            crate::rules::history_fits(taps, history),
+            fir::history_fits(taps, history),
             input.len() <= output.len(),
         );
         if number != stage::NONE {

@@ -111,6 +111,9 @@ count h x y = one-answer (λ r. (r, (tt, (tt, (tt, tt)))))
 pub next-phase : NoSecond fir.next_phase.ended fir.next_phase.Reads.Learnt
 next-phase h x y = one-answer (λ r. (r, (tt, (tt, (tt, tt)))))
 
+pub history-fits : NoSecond fir.history_fits.ended fir.history_fits.Reads.Learnt
+history-fits h x y = one-answer (λ r. (r, (tt, (tt, tt))))
+
 -- of the history, which is all that these two answer
 pub keep : NoSecond fir.keep.ended fir.keep.Reads.Learnt
 keep h x y = one-answer (λ history. (tt, (history, (tt, tt))))

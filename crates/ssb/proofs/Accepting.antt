@@ -12,7 +12,8 @@ use Rattle.stage.specs.Length.{LONGEST, isWithin, isEven}
 use Rattle.stage.specs.Floats.{plusZero}
 use Rattle.stage.proofs.Both.{both}
 use Rattle.stage.proofs.Refusals.{met, run-gives}
-use Rattle.hilbert.specs.Rules.{tapsAllowed, historyFits}
+use Rattle.fir.specs.Filter.{historyFits}
+use Rattle.hilbert.specs.Rules.{tapsAllowed}
 use Rattle.hilbert.specs.Taps.{hilbertTaps}
 use Rattle.hilbert.specs.Making as hilbert
 use Rattle.hilbert.specs.declared.HilbertDone.{HilbertDone}

@@ -2,7 +2,7 @@
 use Prim.Native.Nat.{ℕ}
 use mathlib.Core.Bool.{Bool, _&&_}
 use lib.Dec.{eqb}
-use Rattle.hilbert.specs.Rules.{historyFits}
+use Rattle.fir.specs.Filter.{historyFits}
 
 -- 65 taps, a history of Q of taps less one, a history of I of 32
 abbrev pub lengthsFit : ℕ → ℕ → ℕ → Bool
