@@ -1,17 +1,32 @@
 # Threshlantern: what can be done from here. `make help` prints the lines below that have two hashes.
 .DEFAULT_GOAL := help
-.PHONY: help test lib compare plants bench fmt clean
+.PHONY: help listen test lib demo faces compare plants bench fmt clean
 
 help: ## what there is
 	@echo 'Threshlantern: a proved signal path. The commands:'
 	@sed -n 's/^\([a-z-]*\):.*## \(.*\)/  make \1\t\2/p' $(MAKEFILE_LIST) | expand -t 18
 
+listen: demo ## hear it: demodulate the capture that is shipped, into build/alarm.wav
+	@tests/need.sh python3
+	@tests/listen.sh
+
 test: ## prove everything, try the must-fail edits, run the programs; the last line is 'N passed, 0 failed'
 	@tests/gate.sh
 
-lib: ## target/staticlib/libthreshlantern.a, the library for C and Rust
+lib: ## build/libthreshlantern.a and build/threshlantern.h, the library for C and Rust
 	@tests/need.sh rt
 	@rt staticlib threshlantern
+	@mkdir -p build
+	@cp target/staticlib/libthreshlantern.a bindings/c/threshlantern.h build/
+
+demo: ## build/demo: pairs of bytes on standard input, f32 of sound on standard output
+	@tests/need.sh rt
+	@rt check demo
+	@mkdir -p build
+	@cp target/bin/demo build/
+
+faces: lib demo ## run what C and Rust see: header, symbols, examples, the crate's tests, the demo on cut pipes
+	@tests/faces.sh
 
 compare: lib ## hold the library against Rust's own and the Rust original on millions of inputs (ARGS='--seed 7' repeats a run)
 	@oracle/run.sh $(ARGS)
@@ -26,5 +41,5 @@ fmt: ## lay the Rattle sources and proofs out as the gate wants them
 	@tests/need.sh rt
 	@rt fmt
 
-clean: ## remove target/
-	@rm -rf target
+clean: ## remove target/ and build/
+	@rm -rf target build

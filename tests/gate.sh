@@ -1,6 +1,7 @@
 #!/usr/bin/env bash
 # The gate. Layout and docs/PROMISES.md, then everything proved from nothing with the must-fail edits and the programs, then the
-# README's example, then the comparison with Rust where rustc is at hand, and planted errors that it must find.
+# faces (header, examples, crate, demo), the README's example, then the comparison with Rust where rustc is at hand, and
+# planted errors that it must find.
 # The last line is that of `rt ci`: N passed, 0 failed.
 set -euo pipefail
 cd "$(dirname "$0")/.."
@@ -20,6 +21,7 @@ case "$verdict" in
 esac
 
 make --no-print-directory lib
+tests/faces.sh
 if [ "$(uname -m)" != x86_64 ]; then
   echo "gate: the library is compiled for x86-64 and this machine is $(uname -m): the README's example and the comparison with Rust were skipped"
   echo "$verdict"

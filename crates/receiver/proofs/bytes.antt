@@ -1,0 +1,2 @@
+-- What the loop that stores bytes leans on.
+pub mod Fours
