@@ -1,6 +1,6 @@
 -- The cut law: however a stream is cut between pairs into blocks, their sound in a row is that of the stream. By the cut laws of the filter and
 -- of the demodulator's run. Assumes nothing.
-use Prim.Native.Nat.{ℕ, _+_, _<_}
+use Prim.Native.Nat.{ℕ}
 use native.Mathlib.Omega.{arith}
 use mathlib.Core.Path.{_≡_, refl, sym, ap, _∙_}
 use mathlib.Core.Bool.{true}
@@ -9,8 +9,7 @@ use lib.ListN.{length, length-map, length-append}
 use lib.Ieee.{Float, binary32, toBits}
 use Rattle.stage.specs.Floats.{plusZero}
 use Rattle.stage.specs.Length.{isEven}
-use Rattle.stage.specs.Run.{outs, end}
-use Rattle.stage.specs.Layout.{pairs, zip, firsts, seconds}
+use Rattle.stage.specs.Layout.{firsts, seconds}
 use Rattle.stage.proofs.Cut as run
 use Rattle.stage.proofs.Layouts.{pairs-append, zip-append, firsts-append, seconds-append, length-firsts, length-seconds}
 use Rattle.converter.specs.Convert.{sampleOf, samples}

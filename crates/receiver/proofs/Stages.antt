@@ -11,8 +11,8 @@ use Rattle.stage.specs.Floats.{plusZero}
 use Rattle.stage.specs.Length.{LONGEST}
 use Rattle.stage.specs.Layout.{pairs, over}
 use Rattle.stage.specs.Run.{outs, end}
-use Rattle.stage.specs.Into.{Put, numberInto, refusedPut, ranInto, callInto}
-use Rattle.stage.proofs.Refusals.{run-gives, met-is-none}
+use Rattle.stage.specs.Into.{numberInto, refusedPut, ranInto}
+use Rattle.stage.proofs.Refusals.{run-gives}
 use Rattle.stage.proofs.Run.{length-outs}
 use Rattle.stage.proofs.Layouts.{length-pairs}
 use Rattle.stage.proofs.Filling.{length-counted}

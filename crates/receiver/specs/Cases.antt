@@ -1,11 +1,11 @@
 -- Worked values of the receiver, by computation: the bytes of a float, and who is refused. Assumes nothing.
 use mathlib.Core.Path.{_≡_, refl}
 use mathlib.Core.List.{[], _∷_}
-use lib.Ieee.{binary32, ofBits, toBits, le}
+use lib.Ieee.{ofBits, toBits, le}
 use Rattle.stage.specs.Floats.{one}
 use Rattle.fir.specs.Filter.{countOf}
 use Rattle.receiver.specs.Bytes.{littleEndian}
-use Rattle.receiver.specs.Answers.{fresh, none}
+use Rattle.receiver.specs.Answers.{fresh}
 use Rattle.receiver.specs.Making.{newRefusal}
 use Rattle.receiver.specs.Receive.{heardOf, receiveRefusal}
 

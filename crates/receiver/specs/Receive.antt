@@ -1,6 +1,6 @@
 -- A block of bytes: what `receive` gives, on acceptance and on refusal. Definitions only.
 use Prim.Native.Nat.{ℕ, _*_, _/_}
-use mathlib.Core.Bool.{true, _&&_}
+use mathlib.Core.Bool.{_&&_}
 use mathlib.Core.List.{List}
 use lib.Dec.{leb}
 use lib.ListN.{length}

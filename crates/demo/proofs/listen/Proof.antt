@@ -1,7 +1,6 @@
 -- `demo::listen` is safe and ends. The block keeps its length from turn to turn, and the measure is the number of turns that are left.
 -- Assumes nothing.
-use native.Mathlib.Omega.{arith}
-use mathlib.Core.Path.{_≡_, refl}
+use mathlib.Core.Path.{_≡_}
 use lib.ListN.{length}
 use borrow.Author.Needs.{needs}
 use Rattle.demo.proofs.listen.Statement.{statement}

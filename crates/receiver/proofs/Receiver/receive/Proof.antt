@@ -1,7 +1,7 @@
 -- `Receiver::receive` meets its contract: its number is the definition's, and the sound stands over what the output held. Assumes nothing.
 use Prim.Native.Nat.{_≤_, _*_, _/_}
 use native.Mathlib.Omega.{arith}
-use mathlib.Core.Path.{_≡_, refl, sym, ap, _∙_}
+use mathlib.Core.Path.{_≡_, sym, _∙_}
 use denote.Ref.{now}
 use lib.ListN.{length}
 use Rattle.stage.proofs.Refusals.{refused-gives, run-gives}

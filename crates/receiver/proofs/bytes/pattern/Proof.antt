@@ -1,5 +1,5 @@
 -- `receiver::bytes::pattern` meets its contract: a NaN is told by x != x, and any other x has its own pattern. Assumes nothing.
-use mathlib.Core.Path.{_≡_, refl, sym, ap}
+use mathlib.Core.Path.{sym, ap}
 use lib.Ieee.{binary32, toBits}
 use Rattle.number.proofs.Nan.{is-nan, is-number}
 use borrow.Author.Needs.{needs}

@@ -1,7 +1,7 @@
 -- `receiver::path::run` meets its contract: what each stage leaves is a part of the definition. Assumes nothing.
-use Prim.Native.Nat.{_+_, _%_, _/_, _≤_}
+use Prim.Native.Nat.{_/_, _≤_}
 use native.Mathlib.Omega.{arith}
-use mathlib.Core.Path.{_≡_, refl, sym, ap, _∙_}
+use mathlib.Core.Path.{_≡_, ap, _∙_}
 use denote.Ref.{now}
 use lib.ListN.{length}
 use Rattle.stage.specs.Length.{LONGEST}

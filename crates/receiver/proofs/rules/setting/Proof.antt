@@ -1,5 +1,4 @@
 -- `receiver::rules::setting` meets its contract: each flag is the definition's. Assumes nothing.
-use mathlib.Core.Path.{_≡_}
 use borrow.Author.Needs.{needs}
 use Rattle.receiver.proofs.rules.setting.Statement.{statement}
 use Rattle.receiver.proofs.rules.setting.Tie as tie
