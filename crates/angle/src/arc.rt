@@ -2,8 +2,12 @@
 //
 // The parts 1/3, 1/5, .. 1/31 are written as the quotients that a rounded division gives; the proof of
 // `arc_series` computes each division anew. A later request gives the answer another form, so callers
-// use `arctangent` alone.
+// use `arctangent` alone. Where one of two values is taken both are worked out, and a function of its own
+// takes one: so there is no branch, and a loop over `arctangent` can be worked several samples at a time.
 ghost use mathlib.Core.Path.{_≡_};
+ghost use mathlib.Core.Bool.{false, cond, _||_};
+ghost use lib.Ieee.{nan, inf, lt, eq, isNan};
+ghost use Rattle.angle.specs.Numbers.{one, nought, bound};
 ghost use Rattle.angle.specs.Arc.{odds, oddNumbers, base, inner, flat, quotient, smaller, greater, steep, mirrored, turned, arctan};
 
 const HALF: f64 = 1.5707963267948966;
@@ -16,20 +20,24 @@ const BOUND: f64 = 0.41421356237309503;
 pub fn arctangent(y: f64, x: f64) -> f64
     ensures { λ a. ⌜ a ≡ arctan y x ⌝ }
 {
+    let a = first_quarter(
+        number::kinds::magnitude_f64(y),
+        number::kinds::magnitude_f64(x),
+    );
+    of_numbers(y, x, turn_to(y, x, a))
+}
+
+// The angle a, but NaN where y or x is.
+fn of_numbers(y: f64, x: f64, a: f64) -> f64
+    ensures { λ b. ⌜ b ≡ cond (isNan y || isNan x) nan a ⌝ }
+{
     if y != y {
         return 0.0 / 0.0;
     }
     if x != x {
         return 0.0 / 0.0;
     }
-    turn_to(
-        y,
-        x,
-        first_quarter(
-            number::kinds::magnitude_f64(y),
-            number::kinds::magnitude_f64(x),
-        ),
-    )
+    a
 }
 
 // From two magnitudes, the angle in the first quarter.
@@ -63,8 +71,15 @@ fn base_of(q: f64) -> f64
 fn inner_of(q: f64) -> f64
     ensures { λ a. ⌜ a ≡ inner q ⌝ }
 {
+    above_bound(q, (q - 1.0) / (q + 1.0))
+}
+
+// u where q is above the bound, else q.
+fn above_bound(q: f64, u: f64) -> f64
+    ensures { λ a. ⌜ a ≡ cond (lt bound q) u q ⌝ }
+{
     if q > BOUND {
-        return (q - 1.0) / (q + 1.0);
+        return u;
     }
     q
 }
@@ -92,13 +107,20 @@ fn arc_series(w: f64) -> f64
 fn divided(small: f64, great: f64) -> f64
     ensures { λ q. ⌜ q ≡ quotient small great ⌝ }
 {
+    of_sizes(small, great, small / great)
+}
+
+// The quotient q, but 0 where both are zero and 1 where both are infinite.
+fn of_sizes(small: f64, great: f64, q: f64) -> f64
+    ensures { λ a. ⌜ a ≡ cond (eq great nought) nought (cond (eq small (inf false)) one q) ⌝ }
+{
     if great == 0.0 {
         return 0.0;
     }
     if small == 1.0 / 0.0 {
         return 1.0;
     }
-    small / great
+    q
 }
 
 fn smaller_of(y: f64, x: f64) -> f64

@@ -37,3 +37,7 @@ fmMeans s (fm-step.Kept out phase state) = kept out (record { «last_phase» = p
 -- the step of a run, from a pair
 abbrev pub fmAnswer : FmDemodulator → Float × Float → Answer Float FmDemodulator
 fmAnswer s p = fmMeans s (fmStep s (angleOf p))
+
+-- the same step from the pair's angle
+abbrev pub fromAngle : FmDemodulator → Float → Answer Float FmDemodulator
+fromAngle s phase = fmMeans s (fmStep s phase)

@@ -3,14 +3,15 @@
 // Document 01, "The stages" and "Struck samples": the angle is document 01's arctangent at f32, 2 x PI is
 // taken off or on only where the difference is strictly beyond PI or -PI, and the output is divided by PI.
 // `specs/Step.antt` has the definition of a step, `specs/State.antt` and `specs/Process.antt` what each call
-// gives, `specs/Cases.antt`
-// the marked cases 10 and 11. No public function here has a `requires`.
+// gives, `specs/Cases.antt` the marked cases 10 and 11. The angles are taken first, all of them, since they
+// need no feedback (`angles.rt`). No public function here has a `requires`.
+mod angles;
 mod rules;
 mod step;
 
 ghost use mathlib.Core.Path.{_≡_};
 ghost use Rattle.fm.specs.State.{answered, fresh, deemphasised};
-ghost use Rattle.fm.specs.Process.{put, processInto};
+ghost use Rattle.fm.specs.Process.{put, followed, processInto};
 use step::FmStep;
 
 #[repr(C)]
@@ -64,26 +65,32 @@ impl FmDemodulator {
         if refusal != stage::NONE {
             return self.answer(refusal, 0, 0);
         }
+        let n = input.len() / 2;
+        angles::angles(input, &mut output[0..n]);
+        self.follow(&mut output[0..n])
+    }
+
+    // The feedback over the pairs' angles, whose places its outputs take.
+    fn follow(mut self, run: &mut [f32]) -> FmDone
+        ensures { λ r. ⌜ put r (now (run .exit)) ≡ followed self (now (run .entry)) ⌝ }
+    {
         let mut struck: usize = 0;
-        let mut i: usize = 0;
         let mut k: usize = 0;
-        while i < input.len() {
-            let phase = angle::single::arctangent_f32(input[i + 1], input[i]);
-            match step::step(self, phase) {
+        while k < run.len() {
+            match step::step(self, run[k]) {
                 FmStep::Struck => {
-                    output[k] = 0.0;
+                    run[k] = 0.0;
                     struck += 1;
                 }
                 FmStep::Kept(out, next, state) => {
-                    output[k] = out;
+                    run[k] = out;
                     self.last_phase = next;
                     self.deemph_state = state;
                 }
             }
-            i += 2;
             k += 1;
         }
-        self.answer(stage::NONE, input.len() / 2, struck)
+        self.answer(stage::NONE, run.len(), struck)
     }
 
     fn answer(self, refusal: u32, count: usize, struck: usize) -> FmDone

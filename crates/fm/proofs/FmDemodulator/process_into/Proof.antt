@@ -1,149 +1,98 @@
--- `fm::FmDemodulator::process_into` meets its contract: its loop is that of a stage from pairs to single outputs, and where the number refuses nothing is done. Assumes nothing.
-use Prim.Native.Nat.{_-_}
-use mathlib.Core.Path.{sym, ap, _∙_}
-use mathlib.Core.Logic.{⊎-elim}
-use lib.ListN.{length}
-use lib.Ieee.{nan}
-use Rattle.stage.specs.Floats.{plusZero}
-use Rattle.stage.proofs.LoopInto.{IntoLoop, into-begins, into-turns, into-ends}
-use Rattle.stage.proofs.Intos.{into-lengths, into-refused, into-run}
-use Rattle.fm.specs.Step.{fmMeans, fmStep, angleOf, fmAnswer}
+-- `fm::FmDemodulator::process_into` meets its contract: the angles first and then the feedback is the run over the pairs, and where the number refuses nothing is done. Assumes nothing.
+use Prim.Native.Nat.{_+_, _/_, _%_, _≤_}
+use native.Mathlib.Nat.{sub-zero}
+use native.Mathlib.Omega.{arith}
+use mathlib.Core.Path.{_≡_, sym, _∙_}
+use denote.Ref.{now}
+use lib.ListN.{length, take}
+use lib.Seq.{length-take-le}
+use borrow.Author.Tests.{eqb-true}
+use Rattle.stage.specs.Into.{refusedPut, numberInto, ranInto}
+use Rattle.stage.proofs.Refusals.{run-gives}
+use Rattle.stage.proofs.Intos.{into-lengths, into-refused}
 use Rattle.fm.specs.Process.{fmStage}
+use Rattle.fm.proofs.Ahead.{still-room, ahead}
 use borrow.Author.Needs.{needs}
 use Rattle.fm.proofs.FmDemodulator.process_into.Statement.{statement}
 use Rattle.fm.proofs.FmDemodulator.process_into.Tie as tie
 
-abbrev Inv-loop : tie.InvT-loop
-Inv-loop self₀ input output₀ refusal struck₀ i₀ k₀ self output struck i k = IntoLoop fmAnswer plusZero self₀ input output₀ output self struck i k
-
-abbrev μ-loop : tie.MeasureT-loop
-μ-loop self₀ input output₀ refusal struck₀ i₀ k₀ self output struck i k = length input - i
-
-processing-requires : tie.Need-processing-requires Inv-loop μ-loop
+processing-requires : tie.Need-processing-requires
 processing-requires c κs = search needs
 
-answer-requires : tie.Need-answer-requires Inv-loop μ-loop
+answer-requires : tie.Need-answer-requires
 answer-requires c κs = search needs
 
-returns : tie.Need-returns Inv-loop μ-loop
+returns : tie.Need-returns
 returns c =
     let n = c .before .before in
     let a = n .before .before .before .args in
-    rw (c .answer .ensures) (into-refused fmStage (a .self) (a .input .now) (a .output .now) (n .processing .result) (n .processing .ensures) (c .before .if1 .taken))
+    rw (c .answer .ensures) (into-refused fmStage (a .self) (now (a .input)) (now (a .output)) (n .processing .result) (n .processing .ensures) (c .before .if1 .taken))
 
-loop-holds : tie.Need-loop-holds Inv-loop μ-loop
-loop-holds c =
+sub-angles : tie.Need-sub-angles
+sub-angles c = search needs
+
+part-angles-start : tie.Need-part-angles-start
+part-angles-start c = search needs
+
+part-angles-end : tie.Need-part-angles-end
+part-angles-end c =
     let n = c .before in
     let a = n .before .before .before .args in
-    let fit = into-lengths fmStage (a .self) (length (a .input .now)) (length (a .output .now)) (sym (n .processing .ensures) ∙ c .if1 .left) in
-    into-begins fmAnswer plusZero (a .self) (a .input .now) (a .output .now) (fit .0) (fit .1)
+    into-lengths fmStage (a .self) (length (now (a .input))) (length (now (a .output))) (sym (n .processing .ensures) ∙ c .if1 .left) .1
 
-add-arctangent-f32 : tie.Need-add-arctangent-f32 Inv-loop μ-loop
-add-arctangent-f32 c = search needs
+angles-requires : tie.Need-angles-requires
+angles-requires c κs =
+    let n = c .before .before in
+    let a = n .before .before .before .args in
+    let half = length (now (a .input)) / 2 in
+    let fit = into-lengths fmStage (a .self) (length (now (a .input))) (length (now (a .output))) (sym (n .processing .ensures) ∙ c .before .if1 .left) in
+    let whole : length (now (a .input)) % 2 ≡ 0 = eqb-true _ _ (fit .0) in
+    rw (sub-zero, length-take-le half (now (a .output)) (fit .1)) (omega arith)
 
-mul-arctangent-f32 : tie.Need-mul-arctangent-f32 Inv-loop μ-loop
-mul-arctangent-f32 c = search needs
+sub-follow : tie.Need-sub-follow
+sub-follow c = search needs
 
-shared-slice-read-arctangent-f32 : tie.Need-shared-slice-read-arctangent-f32 Inv-loop μ-loop
-shared-slice-read-arctangent-f32 c = search needs
+part-follow-start : tie.Need-part-follow-start
+part-follow-start c = search needs
 
-mul-arctangent-f32-2 : tie.Need-mul-arctangent-f32-2 Inv-loop μ-loop
-mul-arctangent-f32-2 c = search needs
+part-follow-end : tie.Need-part-follow-end
+part-follow-end c =
+    let g = c .before .before in
+    let a = g .before .before .before .before .before .before .args in
+    still-room (now (a .input)) _ _ (g .angles .ensures)
 
-shared-slice-read-arctangent-f32-2 : tie.Need-shared-slice-read-arctangent-f32-2 Inv-loop μ-loop
-shared-slice-read-arctangent-f32-2 c = search needs
+follow-requires : tie.Need-follow-requires
+follow-requires c κs = search needs
 
-arctangent-f32-requires : tie.Need-arctangent-f32-requires Inv-loop μ-loop
-arctangent-f32-requires c κs = search needs
-
-step-requires : tie.Need-step-requires Inv-loop μ-loop
-step-requires c κs = search needs
-
-enum-told : tie.Need-enum-told Inv-loop μ-loop
-enum-told c = search needs
-
-mul-output : tie.Need-mul-output Inv-loop μ-loop
-mul-output c = search needs
-
-slice-write-output : tie.Need-slice-write-output Inv-loop μ-loop
-slice-write-output c = search needs
-
-add-struck : tie.Need-add-struck Inv-loop μ-loop
-add-struck c = search needs
-
-enum-known-out : tie.Need-enum-known-out Inv-loop μ-loop
-enum-known-out c = search needs
-
-mul-output-2 : tie.Need-mul-output-2 Inv-loop μ-loop
-mul-output-2 c = search needs
-
-slice-write-output-2 : tie.Need-slice-write-output-2 Inv-loop μ-loop
-slice-write-output-2 c = search needs
-
-add-i : tie.Need-add-i Inv-loop μ-loop
-add-i c = search needs
-
-add-k : tie.Need-add-k Inv-loop μ-loop
-add-k c = search needs
-
-loop-less : tie.Need-loop-less Inv-loop μ-loop
-loop-less c = search needs
-
-loop-again : tie.Need-loop-again Inv-loop μ-loop
-unfolding angleOf
-loop-again c =
-    let m = c .before in
-    let a = m .before in
-    let t = a .before .before .before in
-    let l = t .before .loop in
-    let told = sym (m .step .ensures ∙ ap (fmStep (l .self)) (a .arctangent-f32 .ensures)) in
-    ⊎-elim
-    (λ w. rw (w .2, w .3, w .4) (into-turns fmAnswer plusZero nan (l .inv) (t .loop-test .taken) (ap (fmMeans (l .self)) (told ∙ w .1 .given .1))))
-    (λ w. rw (w .3, w .4, w .5) (into-turns fmAnswer plusZero nan (l .inv) (t .loop-test .taken) (ap (fmMeans (l .self)) (told ∙ w .1 .given .1))))
-    (c .match .came)
-
-answer-requires-2 : tie.Need-answer-requires-2 Inv-loop μ-loop
-answer-requires-2 c κs = search needs
-
-same-length : tie.Need-same-length Inv-loop μ-loop
+same-length : tie.Need-same-length
 same-length c = search needs
 
-returns-2 : tie.Need-returns-2 Inv-loop μ-loop
+returns-2 : tie.Need-returns-2
 returns-2 c =
-    let l = c .before .before in
-    let n = l .before .before in
+    let f = c .before .before in
+    let g = f .before .before .before .before in
+    let e = g .before .before in
+    let n = e .before in
     let a = n .before .before .before .args in
-    let e = into-ends fmAnswer plusZero (l .loop .inv) (c .before .loop-test .left) in
-    rw (c .answer2 .ensures) (into-run fmStage (a .self) (a .input .now) (a .output .now) (n .processing .result) (n .processing .ensures) _ _ _ (l .before .if1 .left) (e .0) (e .1) (e .2))
+    let number = numberInto fmStage (a .self) (length (now (a .input))) (length (now (a .output))) in
+    rw sub-zero
+    (ahead (a .self) (now (a .input)) (now (a .output)) (g .angles .last .1 .0) (f .follow .last .1 .0) (f .follow .result) (g .angles .ensures) (rw sub-zero at (f .follow .ensures))
+    ∙ run-gives number (ranInto fmStage (a .self) (now (a .input)) (now (a .output))) (refusedPut number (a .self) (now (a .output))) (sym (n .processing .ensures) ∙ e .if1 .left))
 
 pub process-into-spec : {M : Type 1} → statement M
 process-into-spec =
     tie.close
     (tie.spec
-    Inv-loop
-    μ-loop
     processing-requires
     answer-requires
     returns
-    loop-holds
-    add-arctangent-f32
-    mul-arctangent-f32
-    shared-slice-read-arctangent-f32
-    mul-arctangent-f32-2
-    shared-slice-read-arctangent-f32-2
-    arctangent-f32-requires
-    step-requires
-    enum-told
-    mul-output
-    slice-write-output
-    add-struck
-    enum-known-out
-    mul-output-2
-    slice-write-output-2
-    add-i
-    add-k
-    loop-less
-    loop-again
-    answer-requires-2
+    sub-angles
+    part-angles-start
+    part-angles-end
+    angles-requires
+    sub-follow
+    part-follow-start
+    part-follow-end
+    follow-requires
     same-length
     returns-2)
