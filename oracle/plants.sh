@@ -5,7 +5,7 @@
 set -eu
 
 root=$(cd "$(dirname "${BASH_SOURCE[0]}")/.." && pwd)
-words=(--seed 1 --count 100000 "$@")
+words=(--seed 1 --count 20000 "$@")
 found=0
 missed=0
 absent=0
