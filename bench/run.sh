@@ -6,13 +6,9 @@ set -eu
 root=$(cd "$(dirname "${BASH_SOURCE[0]}")/.." && pwd)
 target=$root/target/bench
 
-if [ "$(uname -m)" != x86_64 ]; then
-  echo "bench: the library is compiled for x86-64 and this machine is $(uname -m): nothing to measure here"
-  exit 0
-fi
 "$root/tests/need.sh" rustc python3
-if [ ! -f "$root/target/staticlib/libthreshlantern.a" ]; then
-  echo "bench/run.sh: target/staticlib/libthreshlantern.a is missing; 'make lib' makes it" >&2
+if [ ! -f "$root/target/here/libthreshlantern.a" ]; then
+  echo "bench: there is no archive that this machine, $(uname -m), can link (target/here, by 'make lib'): nothing to measure" >&2
   exit 2
 fi
 
@@ -25,12 +21,15 @@ mkdir -p "$target"
 build() {
   out=$1
   shift
-  rustc --edition 2021 -C opt-level=3 -C debug-assertions=off "$@" -L "native=$root/target/staticlib" -o "$target/$out" "$root/bench/main.rs"
+  rustc --edition 2021 -C opt-level=3 -C debug-assertions=off "$@" -L "native=$root/target/here" -o "$target/$out" "$root/bench/main.rs"
 }
 build plain
 build native -C target-cpu=native
 
-grep -m 1 'model name' /proc/cpuinfo | sed 's/.*: /processor: /' || true
+LC_ALL=C lscpu 2>/dev/null | sed -n 's/^Model name: */processor: /p' || true
+if [ "$(uname -m)" != x86_64 ]; then
+  echo "this machine is $(uname -m): the library's LLVM module is compiled for it, as tests/lib.sh tells"
+fi
 echo
 echo "the original at opt-level 3"
 "$target/plain" "$@"

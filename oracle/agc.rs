@@ -32,8 +32,8 @@ fn setting(target: f32, attack: f32, decay: f32) -> bool {
     refusals::above_zero(target) && refusals::unit(attack) && refusals::unit(decay)
 }
 
-const NEW: Call = Call::new("agc_new", &[NONE, SETTING]);
-const PROCESS: Way<State> = Way {
+pub const NEW: Call = Call::new("agc_new", &[NONE, SETTING]);
+pub const PROCESS: Way<State> = Way {
     call: Call::new("agc_process", &[NONE, SETTING, STATE, LIMIT, LENGTH]),
     face: Face::InPlace(tl_agc_process),
     width: 2,
@@ -64,7 +64,7 @@ pub fn compare(plan: &Plan, report: &mut Report) {
     trials::compare(&PROCESS, &trials, plan, report);
 }
 
-fn states() -> Vec<State> {
+pub fn states() -> Vec<State> {
     let state = |gain, target, attack, decay| State {
         gain,
         target,
@@ -98,16 +98,7 @@ fn any(rng: &mut Rng) -> State {
 fn making(plan: &Plan, report: &mut Report) {
     let mut rng = Rng::new(plan.seed, NEW.name);
     let mut calls = Calls::new(NEW, "settings", &[NONE, SETTING]);
-    let mut put = |target: f32, attack: f32, decay: f32| {
-        // Safety: it takes no pointer.
-        let answer = unsafe { tl_agc_new(target, attack, decay) };
-        let original = || dsp::Agc::new(target, attack, decay).into();
-        let (given, kept) = (
-            fields![target, attack, decay],
-            setting(target, attack, decay),
-        );
-        make(&mut calls, given, answer, kept, original);
-    };
+    let mut put = |target, attack, decay| new(&mut calls, target, attack, decay);
     let ends = ends_f32();
     for &target in &ends {
         for &attack in &ends {
@@ -128,6 +119,20 @@ fn making(plan: &Plan, report: &mut Report) {
         );
     }
     calls.end(report);
+}
+
+pub fn new(calls: &mut Calls, target: f32, attack: f32, decay: f32) {
+    // Safety: it takes no pointer.
+    let answer = unsafe { tl_agc_new(target, attack, decay) };
+    let original = || dsp::Agc::new(target, attack, decay).into();
+    let kept = setting(target, attack, decay);
+    make(
+        calls,
+        fields![target, attack, decay],
+        answer,
+        kept,
+        original,
+    );
 }
 
 /// An infinite magnitude of finite samples is no reason to strike: the error is 0 and the gain is

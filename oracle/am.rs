@@ -31,7 +31,7 @@ extern "C" {
 
 const NEW: Call = Call::new("am_new", &[NONE]);
 const ALL: &[u32] = &[NONE, SETTING, STATE, LIMIT, LENGTH, ROOM];
-const PROCESS: Way<State> = Way {
+pub const PROCESS: Way<State> = Way {
     call: Call::new("am_process_into", ALL),
     face: Face::Into(tl_am_process_into),
     width: 2,
@@ -63,9 +63,13 @@ pub fn compare(plan: &Plan, report: &mut Report) {
     trials::compare(&PROCESS, &trials, plan, report);
 }
 
+pub fn fresh() -> State {
+    dsp::AmDemodulator::new().into()
+}
+
 #[rustfmt::skip]
 fn states() -> Vec<State> {
-    let fresh: State = dsp::AmDemodulator::new().into();
+    let fresh = fresh();
     vec![
         fresh,
         State { dc_mean: 0.75, hp_state: -0.1, ..fresh },
@@ -96,7 +100,7 @@ fn new(report: &mut Report) {
     let library = unsafe { tl_am_new() };
     let judge = Answered {
         refusal: NONE,
-        state: dsp::AmDemodulator::new().into(),
+        state: fresh(),
         count: 0,
         struck: 0,
     };

@@ -17,9 +17,9 @@ pub fn compare(plan: &Plan, report: &mut Report) {
 }
 
 fn singles(plan: &Plan, report: &mut Report) {
-    let mut right = Check::new("arctangent of f32, near the right f32", NEAR);
-    let mut rust = Check::new("arctangent of f32, near f32::atan2", NEAR);
-    let mut same = Check::new("arctangent of f32, as the steps", Bound::Exact);
+    let mut right = Check::of("arctangent_f32", "near the right f32", NEAR);
+    let mut rust = Check::of("arctangent_f32", "near f32::atan2", NEAR);
+    let mut same = Check::of("arctangent_f32", "as the steps", Bound::Exact);
     let mut put = |y: f32, x: f32| {
         let a = tl_arctangent_f32(y, x);
         // The f64 answer narrowed is the nearest f32 but for a handful of pairs, and so the same on
@@ -47,8 +47,8 @@ fn singles(plan: &Plan, report: &mut Report) {
 }
 
 fn doubles(plan: &Plan, report: &mut Report) {
-    let mut right = Check::new("arctangent, narrowed, near f64::atan2", NEAR);
-    let mut same = Check::new("arctangent, as the steps", Bound::Exact);
+    let mut right = Check::of("arctangent", "narrowed, near f64::atan2", NEAR);
+    let mut same = Check::of("arctangent", "as the steps", Bound::Exact);
     let mut put = |y: f64, x: f64| {
         let a = tl_arctangent(y, x);
         right.within(

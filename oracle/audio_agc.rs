@@ -46,8 +46,8 @@ fn setting(target: f32, attack: f32, decay: f32, floor: f32) -> bool {
     above && refusals::unit(attack) && refusals::unit(decay)
 }
 
-const NEW: Call = Call::new("audio_agc_new", &[NONE, SETTING]);
-const PROCESS: Way<State> = Way {
+pub const NEW: Call = Call::new("audio_agc_new", &[NONE, SETTING]);
+pub const PROCESS: Way<State> = Way {
     call: Call::new("audio_agc_process", &[NONE, SETTING, STATE, LIMIT]),
     face: Face::InPlace(tl_audio_agc_process),
     width: 1,
@@ -91,7 +91,7 @@ pub fn compare(plan: &Plan, report: &mut Report) {
 }
 
 /// One that a receiver uses, with a floor of 0.01 and a hang time of three samples.
-const USUAL: State = State {
+pub const USUAL: State = State {
     gain: 1.0,
     target: 0.7,
     attack: 0.3,
@@ -138,7 +138,7 @@ fn any(rng: &mut Rng) -> State {
     }
 }
 
-fn new(calls: &mut Calls, settings: [f32; 6]) -> Answered {
+pub fn new(calls: &mut Calls, settings: [f32; 6]) -> Answered {
     let [target, attack, decay, hang_time_ms, sample_rate, min_magnitude] = settings;
     let (time, rate, floor) = (hang_time_ms, sample_rate, min_magnitude);
     // Safety: it takes no pointer.
@@ -157,7 +157,7 @@ fn new(calls: &mut Calls, settings: [f32; 6]) -> Answered {
     answer
 }
 
-const SETTINGS: [f32; 6] = [0.7, 0.1, 0.001, 500.0, 48_000.0, 0.01];
+pub const SETTINGS: [f32; 6] = [0.7, 0.1, 0.001, 500.0, 48_000.0, 0.01];
 
 fn making(plan: &Plan, report: &mut Report) {
     let mut rng = Rng::new(plan.seed, NEW.name);

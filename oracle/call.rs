@@ -5,6 +5,7 @@ use crate::lent::Seen;
 use crate::plant;
 use crate::record::{Answer, Field};
 use crate::report::{Bound, Check, Report};
+use crate::sample::{self, Case, Numbers};
 use crate::value::Value;
 
 /// A call of the library, by its name without `tl_`, and the numbers that the paper's table lets it
@@ -67,6 +68,25 @@ impl Outcome {
         slices.find_map(|(seen, written)| seen.difference(written))
     }
 
+    /// The case for the sample: the judge's answer, and the samples' slice first.
+    fn judged(&self, judge: &Judged) -> Case {
+        let mut lent: Vec<_> = self.lent.iter().zip(&judge.written).collect();
+        lent.sort_by_key(|(seen, _)| seen.name != "input");
+        let (mut given, mut answer) = (Numbers::default(), Numbers::default());
+        self.given
+            .iter()
+            .for_each(|field| field.part.put(&mut given));
+        judge.answer.refusal.put(&mut answer);
+        let fields = judge.answer.state.iter().chain(&judge.answer.counts);
+        fields.for_each(|field| field.part.put(&mut answer));
+        let slices = lent.iter().map(|(seen, written)| seen.judged(written));
+        Case {
+            given,
+            lent: slices.collect(),
+            answer,
+        }
+    }
+
     fn shown(&self) -> String {
         let given = self.given.iter().map(Field::shown);
         let lent = self.lent.iter().map(Seen::handed);
@@ -93,6 +113,11 @@ impl Calls {
         }
     }
 
+    /// Fails the check for a reason that is no difference.
+    pub fn fail(&mut self, why: &str) {
+        self.check.fail(why.to_string());
+    }
+
     pub fn hold(
         &mut self,
         given: Vec<Field>,
@@ -106,6 +131,10 @@ impl Calls {
             answer,
             lent,
         };
+        if sample::wanted() {
+            let (number, case) = (judge.answer.refusal, library.judged(&judge));
+            sample::offer(self.call.name, number, &self.check.name, case);
+        }
         let turn = self.given.iter().sum::<u64>() as usize;
         self.given[judge.answer.refusal as usize] += 1;
         let mut planted = false;

@@ -6,7 +6,7 @@ use crate::original::converter;
 use crate::patterns::marks;
 use crate::plan::Plan;
 use crate::refusals::{Holds, LENGTH, LIMIT, MOST, NONE};
-use crate::report::Report;
+use crate::report::{Bound, Check, Report};
 use crate::rng::Rng;
 
 type Face = unsafe extern "C" fn(*const u8, usize, *mut f32, usize) -> u32;
@@ -17,8 +17,8 @@ extern "C" {
     fn tl_convert_inverted(src: *const u8, n: usize, dst: *mut f32, m: usize) -> u32;
 }
 
-struct Way {
-    call: Call,
+pub struct Way {
+    pub call: Call,
     library: Face,
     original: fn(&[u8], &mut [f32]),
 }
@@ -29,7 +29,7 @@ pub const CALLS: &[Call] = &[
     Call::new("convert_inverted", GIVES),
 ];
 
-const WAYS: [Way; 2] = [
+pub const WAYS: [Way; 2] = [
     Way {
         call: CALLS[0],
         library: tl_convert,
@@ -44,7 +44,8 @@ const WAYS: [Way; 2] = [
 
 pub fn compare(plan: &Plan, report: &mut Report) {
     for way in &WAYS {
-        pairs(way, report);
+        marked(way, report);
+        pairs(way, plan, report);
         lengths(way, report);
         around_the_limit(way, plan, report);
         random(way, plan, report);
@@ -71,20 +72,39 @@ impl Way {
         Judged::new(answer, vec![vec![], bits(&now)])
     }
 
-    fn put(&self, calls: &mut Calls, src: &[u8], dst: &[f32]) {
+    /// What stands in the target after the call.
+    pub fn put(&self, calls: &mut Calls, src: &[u8], dst: &[f32]) -> Vec<f32> {
         let (mut from, mut to) = (Lent::new("src", src), Lent::new("dst", dst));
         // Safety: both pairs of pointer and length belong together.
         let answer = unsafe { (self.library)(from.start(), from.len(), to.start(), to.len()) };
+        let out = to.slice().to_vec();
         let lent = vec![from.seen(), to.seen()];
         calls.hold(vec![], answer, lent, self.judge(src, dst));
+        out
     }
 }
 
+/// The paper's cases 1 and 2, with its numbers.
+fn marked(way: &Way, report: &mut Report) {
+    let mut calls = way.check("the marked cases", &[NONE]);
+    let mut check = Check::new(
+        &format!("{}, cases 1 and 2 by the paper", way.call.name),
+        Bound::Exact,
+    );
+    let out = way.put(&mut calls, &[0, 255, 255, 0], &marks(4, 0));
+    let turn = if way.call.name == "convert" { 1.0 } else { -1.0 };
+    let paper = [-1.0, turn, 1.0, -turn];
+    let both = out.iter().zip(&paper).enumerate();
+    both.for_each(|(k, (&x, &y))| check.equal(k, x, y));
+    calls.end(report);
+    report.end_of(check);
+}
+
 /// Every byte in either half beside every other, each pair in a call of its own and all in one.
-fn pairs(way: &Way, report: &mut Report) {
+fn pairs(way: &Way, plan: &Plan, report: &mut Report) {
     let all: Vec<u8> = (0..=0xFFFFu16).flat_map(u16::to_be_bytes).collect();
     let mut alone = way.check("each pair of bytes alone", &[NONE]);
-    for (k, pair) in all.chunks(2).enumerate() {
+    for (k, pair) in all.chunks(2).enumerate().step_by(plan.stride()) {
         way.put(&mut alone, pair, &marks(2, k));
     }
     alone.end(report);
@@ -110,6 +130,8 @@ fn around_the_limit(way: &Way, plan: &Plan, report: &mut Report) {
     let mut rng = Rng::new(plan.seed, "around the limit");
     let mut calls = way.check("around the limit", &[NONE, LIMIT, LENGTH]);
     let src = bytes(&mut rng, 2 * MOST);
+    // The stored sample of answers has room for silence.
+    way.put(&mut calls, &vec![0; MOST + 1], &marks(3, 0));
     let near = [MOST - 2, MOST - 1, MOST, MOST + 1, MOST + 2];
     for n in near.into_iter().chain([0, 1, 2, 2 * MOST]) {
         for m in near.into_iter().chain([0, 1, 2]) {
@@ -131,11 +153,12 @@ fn random(way: &Way, plan: &Plan, report: &mut Report) {
         let dst = marks(n, rng.below(1000) as usize);
         way.put(&mut right, &src[..n / 2 * 2], &dst[..n / 2 * 2]);
         let shorter = rng.below(n as u64) as usize;
-        match rng.below(3) {
-            0 => way.put(&mut wrong, &src[..(n - 1) | 1], &dst[..(n - 1) | 1]),
-            1 => way.put(&mut wrong, &src[..shorter], &dst),
-            _ => way.put(&mut wrong, &src, &dst[..shorter]),
-        }
+        let (from, to) = match rng.below(3) {
+            0 => ((n - 1) | 1, (n - 1) | 1),
+            1 => (shorter, n),
+            _ => (n, shorter),
+        };
+        way.put(&mut wrong, &src[..from], &dst[..to]);
     }
     right.end(report);
     wrong.end(report);

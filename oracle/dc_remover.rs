@@ -36,8 +36,8 @@ extern "C" {
     ) -> Answered;
 }
 
-const NEW: Call = Call::new("dc_remover_new", &[NONE, SETTING]);
-const PROCESS: Way<State> = Way {
+pub const NEW: Call = Call::new("dc_remover_new", &[NONE, SETTING]);
+pub const PROCESS: Way<State> = Way {
     call: Call::new("dc_remover_process", &[NONE, SETTING, STATE, LIMIT, LENGTH]),
     face: Face::InPlace(tl_dc_remover_process),
     width: 2,
@@ -51,7 +51,7 @@ const PROCESS: Way<State> = Way {
         original.into()
     },
 };
-const MONO: Way<State> = Way {
+pub const MONO: Way<State> = Way {
     call: Call::new("dc_remover_process_mono", &[NONE, SETTING, STATE, LIMIT]),
     face: Face::InPlace(tl_dc_remover_process_mono),
     width: 1,
@@ -95,7 +95,7 @@ pub fn compare(plan: &Plan, report: &mut Report) {
     unequal(plan, report);
 }
 
-fn states() -> Vec<State> {
+pub fn states() -> Vec<State> {
     let state = |avg_i, avg_q, alpha| State {
         avg_i,
         avg_q,
@@ -126,13 +126,17 @@ fn making(plan: &Plan, report: &mut Report) {
     let mut calls = Calls::new(NEW, "alphas", &[NONE, SETTING]);
     let random = (0..plan.count / 100).map(|_| any_f32(&mut rng));
     for alpha in ends_f32().into_iter().chain(random) {
-        // Safety: it takes no pointer.
-        let answer = unsafe { tl_dc_remover_new(alpha) };
-        let original = || dsp::DcRemover::new(alpha).into();
-        let kept = refusals::unit(alpha);
-        make(&mut calls, fields![alpha], answer, kept, original);
+        new(&mut calls, alpha);
     }
     calls.end(report);
+}
+
+pub fn new(calls: &mut Calls, alpha: f32) {
+    // Safety: it takes no pointer.
+    let answer = unsafe { tl_dc_remover_new(alpha) };
+    let original = || dsp::DcRemover::new(alpha).into();
+    let kept = refusals::unit(alpha);
+    make(calls, fields![alpha], answer, kept, original);
 }
 
 /// The paper's cases 8 and 9, with its numbers.
@@ -167,6 +171,7 @@ fn unequal(plan: &Plan, report: &mut Report) {
             states().into_iter().for_each(|state| put(&i, &q, state));
         }
     }
+    put(&vec![0.0; MOST + 1], &[0.5, -0.5], states()[1]);
     let long = noise(&mut rng, MOST + 2, 1.0);
     for n in [0, 1, 2, MOST - 1, MOST, MOST + 1, MOST + 2] {
         for m in [0, 1, 2, MOST - 1, MOST, MOST + 1, MOST + 2] {

@@ -12,8 +12,8 @@ use crate::refusals::{LENGTH, NONE, ROOM, SETTING};
 use crate::report::{Bound, Check, Report};
 use crate::rng::Rng;
 use crate::streams::{noise, rows, spoil, stream};
-pub use face::CALLS;
-use face::{State, Whole, PROCESS};
+pub use face::{make, Whole, CALLS, NEW, PROCESS, RESET, UPDATE, WITH};
+use face::State;
 
 pub fn compare(plan: &Plan, report: &mut Report) {
     making::compare(plan, report);

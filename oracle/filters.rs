@@ -7,7 +7,7 @@ use crate::record::Part;
 use crate::refusals::{LENGTH, MOST, NONE, ROOM, SETTING};
 use crate::report::Report;
 use crate::rng::Rng;
-use crate::streams::{length, stream};
+use crate::streams::{length, stream, stream_or_silence};
 
 /// A filter of the library with its taps and all that it keeps from call to call.
 pub trait Filter: Clone {
@@ -61,7 +61,7 @@ pub fn compare<F: Filter>(trials: &Trials<F>, plan: &Plan, report: &mut Report) 
     faults(trials, report, &mut rng);
     around_the_limit(trials, report, &mut rng);
     random(trials, report, &mut rng, plan.count as i64 * 10);
-    streams(trials, report, &mut rng, plan.count / 20_000 + 10);
+    streams(trials, report, &mut rng, plan);
 }
 
 /// One short of what is right, right, one long, none.
@@ -118,13 +118,14 @@ fn around_the_limit<F: Filter>(trials: &Trials<F>, report: &mut Report, rng: &mu
     let mut calls = Calls::new(trials.call, "around the limit", trials.call.gives);
     let none: fn(&mut F) = |_| {};
     for n in [MOST - 1, MOST, MOST + 1, MOST + 2, 2 * MOST] {
-        let input = stream(rng, n);
+        let input = stream_or_silence(rng, n);
         for fault in trials.faults.iter().copied().chain([none]) {
             let mut filter = (trials.small)(rng).swap_remove(0);
             fault(&mut filter);
             let room = filter.outputs(n);
-            let less = room.saturating_sub(1);
-            filter.clone().process(&mut calls, &input, less);
+            for less in [0, room.saturating_sub(1)] {
+                filter.clone().process(&mut calls, &input, less);
+            }
             filter.process(&mut calls, &input, room);
         }
         let mut filter = (trials.any)(rng);
@@ -141,7 +142,8 @@ fn random<F: Filter>(trials: &Trials<F>, report: &mut Report, rng: &mut Rng, wor
     while left > 0 {
         let mut filter = (trials.any)(rng);
         let (taps, width) = (filter.taps(), filter.width());
-        let n = length(rng, &[taps - 1, filter.place(0), taps / 2], 4000) * width;
+        let (phase, factor) = (filter.place(0), filter.place(1) - filter.place(0));
+        let n = length(rng, &[taps - 1, phase, factor, taps / 2], 4000) * width;
         let room = filter.outputs(n);
         left -= (2 * room * taps + n + 300) as i64;
         let input = stream(rng, n);
@@ -165,14 +167,14 @@ fn random<F: Filter>(trials: &Trials<F>, report: &mut Report, rng: &mut Rng, wor
     wrong.end(report);
 }
 
-fn streams<F: Filter>(trials: &Trials<F>, report: &mut Report, rng: &mut Rng, rounds: u64) {
+fn streams<F: Filter>(trials: &Trials<F>, report: &mut Report, rng: &mut Rng, plan: &Plan) {
     let mut cut = Laws::new(trials.call, "any cut");
     let mut damage = Laws::new(trials.call, "damage passes");
-    for round in 0..rounds {
+    for round in 0..plan.count / 20_000 + 10 {
         let filter = (trials.any)(rng);
         let (reach, width) = (filter.taps() - 1, filter.width());
         let n = match round {
-            0 => MOST,
+            0 => plan.longest(),
             _ => rng.below(4 * reach as u64 + 400) as usize * width,
         };
         let samples = stream(rng, n);

@@ -32,9 +32,9 @@ extern "C" {
 }
 
 const NEW: Call = Call::new("fm_new", &[NONE]);
-const WITH: Call = Call::new("fm_with_deemphasis", &[NONE, SETTING, STATE]);
+pub const WITH: Call = Call::new("fm_with_deemphasis", &[NONE, SETTING, STATE]);
 const ALL: &[u32] = &[NONE, SETTING, STATE, LIMIT, LENGTH, ROOM];
-const PROCESS: Way<State> = Way {
+pub const PROCESS: Way<State> = Way {
     call: Call::new("fm_process_into", ALL),
     face: Face::Into(tl_fm_process_into),
     width: 2,
@@ -65,9 +65,13 @@ pub fn compare(plan: &Plan, report: &mut Report) {
     trials::compare(&PROCESS, &trials, plan, report);
 }
 
+pub fn fresh() -> State {
+    dsp::FmDemodulator::new().into()
+}
+
 #[rustfmt::skip]
 fn states() -> Vec<State> {
-    let fresh = State { last_phase: 0.0, deemph_alpha: 1.0, deemph_state: 0.0 };
+    let fresh = fresh();
     vec![
         fresh,
         State { last_phase: 1.0, deemph_alpha: 0.25, deemph_state: -0.5 },
@@ -107,35 +111,37 @@ fn new(report: &mut Report) {
     let mut calls = Calls::new(NEW, "the one input", &[NONE]);
     // Safety: here and below, it takes no pointer.
     let library = unsafe { tl_fm_new() };
-    let judge = answer(NONE, dsp::FmDemodulator::new().into());
+    let judge = answer(NONE, fresh());
     calls.hold(vec![], library, vec![], Judged::new(judge, vec![]));
     calls.end(report);
+}
+
+pub fn with_deemphasis(calls: &mut Calls, state: State, sample_rate: f32, tau: f32) {
+    let library = unsafe { tl_fm_with_deemphasis(state, sample_rate, tau) };
+    let refusal = Holds {
+        setting: !((PROCESS.setting)(state) && refusals::deemphasis(sample_rate, tau)),
+        state: !(PROCESS.stored)(state),
+        ..Holds::default()
+    }
+    .first();
+    let now = match refusal {
+        NONE => {
+            let original = dsp::FmDemodulator::from(state);
+            original.with_deemphasis(sample_rate, tau).into()
+        }
+        _ => state,
+    };
+    let mut given = state.fields();
+    given.extend(fields![sample_rate, tau]);
+    let judge = Judged::new(answer(refusal, now), vec![]);
+    calls.hold(given, library, vec![], judge);
 }
 
 /// The old alpha is looked at though it is about to be written over, and so is the rest.
 fn deemphasis(plan: &Plan, report: &mut Report) {
     let mut rng = Rng::new(plan.seed, WITH.name);
     let mut calls = Calls::new(WITH, "states, rates and taus", WITH.gives);
-    let mut put = |state: State, sample_rate: f32, tau: f32| {
-        let library = unsafe { tl_fm_with_deemphasis(state, sample_rate, tau) };
-        let refusal = Holds {
-            setting: !((PROCESS.setting)(state) && refusals::deemphasis(sample_rate, tau)),
-            state: !(PROCESS.stored)(state),
-            ..Holds::default()
-        }
-        .first();
-        let now = match refusal {
-            NONE => {
-                let original = dsp::FmDemodulator::from(state);
-                original.with_deemphasis(sample_rate, tau).into()
-            }
-            _ => state,
-        };
-        let mut given = state.fields();
-        given.extend(fields![sample_rate, tau]);
-        let judge = Judged::new(answer(refusal, now), vec![]);
-        calls.hold(given, library, vec![], judge);
-    };
+    let mut put = |state, rate, tau| with_deemphasis(&mut calls, state, rate, tau);
     // From 2^-128 downwards 1 / rate overflows, and the alpha is NaN.
     let least = f32::from_bits(0x0020_0000);
     let mut rates = vec![48_000.0, 1e-30, 240_000.0];

@@ -35,9 +35,9 @@ extern "C" {
     fn tl_hilbert_process_into(t: R, n: N, h: W, m: N, from: R, i: N, to: W, o: N) -> Answered;
 }
 
-const NEW: Call = Call::new("hilbert_new", &[NONE, SETTING, LENGTH]);
+pub const NEW: Call = Call::new("hilbert_new", &[NONE, SETTING, LENGTH]);
 const ALL: &[u32] = &[NONE, SETTING, LIMIT, LENGTH, ROOM];
-const PROCESS: Call = Call::new("hilbert_process_into", ALL);
+pub const PROCESS: Call = Call::new("hilbert_process_into", ALL);
 pub const CALLS: &[Call] = &[NEW, PROCESS];
 
 pub fn compare(plan: &Plan, report: &mut Report) {
@@ -70,9 +70,9 @@ pub fn compare(plan: &Plan, report: &mut Report) {
 }
 
 #[derive(Clone)]
-struct Whole {
-    taps: Vec<f32>,
-    history: Vec<f32>,
+pub struct Whole {
+    pub taps: Vec<f32>,
+    pub history: Vec<f32>,
 }
 
 impl Whole {
@@ -99,7 +99,7 @@ impl Whole {
         }
     }
 
-    fn new(&self, calls: &mut Calls) {
+    pub fn new(&self, calls: &mut Calls) {
         let mut t = Lent::new("taps", &self.taps);
         let mut h = Lent::new("history", &self.history);
         // Safety: here and below, each pointer and the length after it belong together.

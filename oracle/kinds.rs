@@ -17,12 +17,12 @@ struct Singles {
 
 impl Singles {
     fn new(inputs: &str) -> Singles {
-        let check = |name: &str| Check::new(&format!("{}, {}", name, inputs), Bound::Exact);
+        let check = |call| Check::of(call, inputs, Bound::Exact);
         Singles {
-            magnitude: check("magnitude of f32"),
-            finite: check("finite f32"),
-            widen: check("widening"),
-            whole: check("whole part"),
+            magnitude: check("magnitude_f32"),
+            finite: check("finite_f32"),
+            widen: check("widen"),
+            whole: check("whole"),
         }
     }
 
@@ -52,8 +52,8 @@ pub fn compare(plan: &Plan, report: &mut Report) {
     singles.end(report);
 
     let mut rng = Rng::new(plan.seed, "kinds of f64");
-    let mut magnitude = Check::new("magnitude of f64, edges and random", Bound::Exact);
-    let mut finite = Check::new("finite f64, edges and random", Bound::Exact);
+    let mut magnitude = Check::of("magnitude_f64", "edges and random", Bound::Exact);
+    let mut finite = Check::of("finite_f64", "edges and random", Bound::Exact);
     let mut put = |x: f64| {
         magnitude.equal(x, tl_magnitude_f64(x), x.abs());
         finite.equal(x, tl_finite_f64(x), x.is_finite());

@@ -1,6 +1,7 @@
 // Lent slices: what the library may write in, what stands around it, and what became of both.
 
-use crate::value::Value;
+use crate::sample::Slice;
+use crate::value::{canonical, Value};
 
 // A slice in a C face: a pointer to read or to write, and a length.
 pub type R = *const f32;
@@ -96,7 +97,7 @@ impl<T: Place> Lent<T> {
 
 /// A slice and its fence before and after a call, by patterns.
 pub struct Seen {
-    name: &'static str,
+    pub name: &'static str,
     float: bool,
     pub before: Vec<u32>,
     pub after: Vec<u32>,
@@ -136,9 +137,26 @@ impl Seen {
         None
     }
 
+    fn lent(&self) -> &[u32] {
+        &self.before[self.front..self.front + self.len]
+    }
+
+    /// The slice before the call and after it, as the judge says, for the sample.
+    pub fn judged(&self, written: &[u32]) -> Slice {
+        let word = |&place: &u32| match self.float {
+            true => canonical(place),
+            false => place,
+        };
+        let stays = &self.lent()[written.len()..];
+        Slice {
+            before: self.lent().iter().map(word).collect(),
+            after: written.iter().chain(stays).map(word).collect(),
+        }
+    }
+
     /// The slice as it was handed in: its length and its head.
     pub fn handed(&self) -> String {
-        let slice = &self.before[self.front..self.front + self.len];
+        let slice = self.lent();
         let digits = if self.float { 8 } else { 2 };
         let head = slice.iter().take(HEAD).map(|p| format!(" {:0digits$X}", p));
         let head: String = head.collect();

@@ -14,6 +14,10 @@ macro_rules! exported {
         $(pub fn $call($($arg: $from),+) -> $to {
             unsafe { symbols::$call($($arg),+) }
         })+
+        /// The names without `tl_`.
+        pub fn calls() -> impl Iterator<Item = &'static str> {
+            [$(stringify!($call)),+].into_iter().map(|name: &str| &name[3..])
+        }
     };
 }
 

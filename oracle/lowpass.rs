@@ -20,12 +20,12 @@ extern "C" {
 const LEAST: f32 = 1.0 / 1024.0;
 const ABOVE: f32 = 0.5;
 
-const DESIGN: Call = Call::new("design_lowpass", &[NONE, SETTING]);
+pub const DESIGN: Call = Call::new("design_lowpass", &[NONE, SETTING]);
 pub const CALLS: &[Call] = &[DESIGN];
 
 pub fn compare(plan: &Plan, report: &mut Report) {
     every_count(plan, report);
-    edges(report);
+    edges(plan, report);
     random(plan, report);
     the_sum(plan, report);
     if plan.all {
@@ -46,7 +46,7 @@ fn judge(count: usize, cutoff: f32) -> Judged {
     Judged::new(answer, vec![bits(&taps)])
 }
 
-fn put(calls: &mut Calls, count: usize, cutoff: f32) {
+pub fn put(calls: &mut Calls, count: usize, cutoff: f32) {
     let mut taps = Lent::new("taps", &marks(count, count / 2));
     // Safety: pointer and length belong together.
     let answer = unsafe { tl_design_lowpass(taps.start(), taps.len(), cutoff) };
@@ -63,7 +63,7 @@ fn every_count(plan: &Plan, report: &mut Report) {
     let mut rng = Rng::new(plan.seed, "every count");
     let mut calls = Calls::new(DESIGN, "every count", &[NONE]);
     let of_factor = |factor: usize| 0.75 / factor as f32;
-    for count in counts() {
+    for count in counts().step_by(plan.stride()) {
         let ends = [LEAST, beside_f32(LEAST, 1), beside_f32(ABOVE, -1)];
         let factors = [2, 3, 10, 64, 2 + count / 2 % 63].map(of_factor);
         let set = ends.into_iter().chain([0.05, 0.25]).chain(factors);
@@ -76,7 +76,7 @@ fn every_count(plan: &Plan, report: &mut Report) {
 
 /// Counts that are even, too small or too large, and cutoffs that are no cutoffs; a slice above the
 /// limit is a count above 769, and so a setting.
-fn edges(report: &mut Report) {
+fn edges(plan: &Plan, report: &mut Report) {
     let mut calls = Calls::new(DESIGN, "counts to 1100, edges", &[NONE, SETTING]);
     let mut cutoffs = vec![0.0, -0.0, 0.25, -0.25, -LEAST, 1.0, f32::MAX, f32::MIN];
     cutoffs.extend([f32::INFINITY, f32::NEG_INFINITY, f32::MIN_POSITIVE]);
@@ -85,7 +85,8 @@ fn edges(report: &mut Report) {
         cutoffs.extend([beside_f32(LEAST, by), beside_f32(ABOVE, by)]);
     }
     for &cutoff in &cutoffs {
-        (0..=1100).for_each(|count| put(&mut calls, count, cutoff));
+        let counts = (0..=1100).step_by(plan.stride());
+        counts.for_each(|count| put(&mut calls, count, cutoff));
     }
     for count in [65_537, MOST - 1, MOST, MOST + 1, MOST + 2, MOST + 3] {
         put(&mut calls, count, 0.25);
@@ -143,7 +144,7 @@ fn the_sum(plan: &Plan, report: &mut Report) {
     let mut rng = Rng::new(plan.seed, "the sum of the taps");
     let mut start = Check::new("lowpass taps, sum from 0.0 as from -0.0", Bound::Exact);
     let mut paper = Check::new("lowpass taps, the paper's as the original's", Bound::Exact);
-    for count in counts() {
+    for count in counts().step_by(plan.stride()) {
         for cutoff in [LEAST, 0.05, beside_f32(ABOVE, -1), in_range(&mut rng)] {
             let taps = by_the_paper(count, cutoff, 0.0);
             let other = by_the_paper(count, cutoff, -0.0);

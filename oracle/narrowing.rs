@@ -16,8 +16,8 @@ struct Both {
 impl Both {
     fn new(inputs: &str) -> Both {
         Both {
-            plain: Check::new(&format!("narrowing, {}", inputs), Bound::Exact),
-            alone: Check::new(&format!("narrowing alone, {}", inputs), Bound::Exact),
+            plain: Check::of("narrow", inputs, Bound::Exact),
+            alone: Check::of("narrow_alone", inputs, Bound::Exact),
         }
     }
 

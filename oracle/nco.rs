@@ -11,9 +11,9 @@ use crate::plan::Plan;
 use crate::refusals::{MOST, NONE, SETTING, STATE};
 use crate::report::Report;
 use crate::rng::Rng;
-use crate::streams::{cuts, length, rows, stream};
-pub use face::CALLS;
-use face::{mix, new, reset, set_freq, State, MIX, NEW, RESET, SET};
+use crate::streams::{cuts, length, rows, stream, stream_or_silence};
+pub use face::{mix, new, reset, State, CALLS, MIX, NEW, RESET};
+use face::{set_freq, SET};
 use std::f64::consts::PI;
 
 pub fn compare(plan: &Plan, report: &mut Report) {
@@ -83,6 +83,7 @@ fn states(plan: &Plan, report: &mut Report) {
         for (x, y) in ends_f64()
             .iter()
             .flat_map(|&x| ends_f64().into_iter().map(move |y| (x, y)))
+            .step_by(plan.stride())
         {
             let mut state = State::of(rng.unit(), rng.unit());
             *one(&mut state) = x;
@@ -103,7 +104,7 @@ fn faults(plan: &Plan, report: &mut Report) {
     let mut rng = Rng::new(plan.seed, "nco, faults");
     let mut calls = Calls::new(MIX, "every fault beside every other", MIX.gives);
     for n in (0..=24).chain(MOST - 1..=MOST + 2).chain([2 * MOST]) {
-        let iq = stream(&mut rng, n);
+        let iq = stream_or_silence(&mut rng, n);
         for (increment, phase) in [
             (1.0, 0.5),
             (4.0, 0.5),

@@ -12,13 +12,18 @@ mod roots;
 mod turns;
 
 mod plan;
+mod sample;
 mod steps;
 
 // The stages are compared with these too, and use what is not used here.
 #[allow(dead_code)]
+mod check;
+#[allow(dead_code)]
 mod patterns;
 #[allow(dead_code)]
 mod plant;
+#[allow(dead_code)]
+mod refusals;
 #[allow(dead_code)]
 mod report;
 #[allow(dead_code)]
@@ -29,12 +34,22 @@ mod value;
 use plant::Plant;
 use std::process::ExitCode;
 
+/// Nothing is refused.
+const NUMBERS: &[u32] = &[refusals::NONE];
+
+fn compare(plan: &plan::Plan, report: &mut report::Report) {
+    roots::compare(plan, report);
+    narrowing::compare(plan, report);
+    turns::compare(plan, report);
+    arctangents::compare(plan, report);
+    kinds::compare(plan, report);
+}
+
 fn main() -> ExitCode {
-    plan::run(&[Plant::LastBit, Plant::TooFar], |plan, report| {
-        roots::compare(plan, report);
-        narrowing::compare(plan, report);
-        turns::compare(plan, report);
-        arctangents::compare(plan, report);
-        kinds::compare(plan, report);
-    })
+    let program = plan::Program {
+        plants: &[Plant::LastBit, Plant::TooFar],
+        calls: library::calls().map(|call| (call, NUMBERS)).collect(),
+        compare,
+    };
+    program.run()
 }

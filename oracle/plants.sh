@@ -1,7 +1,8 @@
 #!/usr/bin/env bash
 # Plants each wrong answer in turn and sees that the comparison finds it every time: a comparison that cannot
 # fail shows nothing. One that no call of the list has a place for, as a struck count where no stage strikes, is
-# not planted, and that is said. Words (`--count 1000`) go to the programs. Exit status: 0 all found; 1 one missed.
+# not planted, and that is said. Words (`--count 1000`) go to the programs. Exit status: 0 all found; 1 one missed;
+# otherwise that of oracle/run.sh, which could not build them.
 set -eu
 
 root=$(cd "$(dirname "${BASH_SOURCE[0]}")/.." && pwd)
@@ -11,21 +12,24 @@ missed=0
 absent=0
 
 for program in numbers stages; do
-  rm -f "$root/target/oracle/$program"
-  list=$("$root/oracle/run.sh" "$program" --plant list)
-  if [ ! -x "$root/target/oracle/$program" ]; then
+  built=$root/target/oracle/$program
+  rm -f "$built"
+  ended=0
+  list=$("$root/oracle/run.sh" "$program" --plant list) || ended=$?
+  if [ ! -x "$built" ]; then
     echo "$list"
+    if [ "$ended" != 0 ]; then exit "$ended"; fi
     continue
   fi
   # Unfalsified, the same run finds nothing; otherwise what it finds might not be the plant.
-  if ! honest=$("$root/target/oracle/$program" "${words[@]}"); then
+  if ! honest=$("$built" "${words[@]}"); then
     echo "$honest"
     echo "plants: $program differs with nothing planted"
     exit 1
   fi
   while read -r plant _; do
     ended=0
-    lines=$("$root/target/oracle/$program" "${words[@]}" --plant "$plant") || ended=$?
+    lines=$("$built" "${words[@]}" --plant "$plant") || ended=$?
     told=$(grep "^plant $plant: " <<<"$lines" || true)
     case "$ended $told" in
       "0 plant $plant: no call here"*) verdict='not planted here' ;;

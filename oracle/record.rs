@@ -1,5 +1,6 @@
 // The records that go into a call and come back: their numbers by name, and the answers' shapes.
 
+use crate::sample::Numbers;
 use crate::value::Value;
 
 /// One number of a record, or a setting that stands beside it in a call.
@@ -47,6 +48,14 @@ impl Value for Part {
             Part::Double(x) => x.shown(),
             Part::Whole(x) => x.to_string(),
             Part::Flag(x) => x.shown(),
+        }
+    }
+    fn put(self, numbers: &mut Numbers) {
+        match self {
+            Part::Single(x) => x.put(numbers),
+            Part::Double(x) => x.put(numbers),
+            Part::Whole(x) => x.put(numbers),
+            Part::Flag(x) => x.put(numbers),
         }
     }
     fn off(self) -> Part {

@@ -7,7 +7,13 @@ use crate::report::{Bound, Check, Report};
 use crate::rng::Rng;
 
 pub fn compare(plan: &Plan, report: &mut Report) {
-    let mut check = Check::new("square root, edges and squares", Bound::Exact);
+    let mut marked = Check::of("sqrt", "cases 3 and 4 by the paper", Bound::Exact);
+    for (x, root) in [(25.0, 5.0), (2.0, f32::from_bits(0x3FB5_04F3))] {
+        marked.equal(x, tl_sqrt(x), root);
+    }
+    report.end_of(marked);
+
+    let mut check = Check::of("sqrt", "edges and squares", Bound::Exact);
     let mut put = |x: f32| check.equal(x, tl_sqrt(x), x.sqrt());
     edges_f32().into_iter().for_each(&mut put);
     for n in 0..=4096u32 {
@@ -23,7 +29,7 @@ pub fn compare(plan: &Plan, report: &mut Report) {
     report.end_of(check);
 
     let mut rng = Rng::new(plan.seed, "square root");
-    let mut check = Check::new("square root, random", Bound::Exact);
+    let mut check = Check::of("sqrt", "random", Bound::Exact);
     for _ in 0..plan.count {
         let x = random(&mut rng);
         check.equal(x, tl_sqrt(x), x.sqrt());
@@ -31,7 +37,7 @@ pub fn compare(plan: &Plan, report: &mut Report) {
     report.end_of(check);
 
     if plan.all {
-        let mut check = Check::new("square root, every f32", Bound::Exact);
+        let mut check = Check::of("sqrt", "every f32", Bound::Exact);
         for x in (0..=u32::MAX).map(f32::from_bits) {
             check.equal(x, tl_sqrt(x), x.sqrt());
         }

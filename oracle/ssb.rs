@@ -10,8 +10,8 @@ use crate::refusals::{LENGTH, MOST, NONE, ROOM, SETTING};
 use crate::report::Report;
 use crate::rng::Rng;
 use crate::streams::noise;
-pub use face::CALLS;
-use face::{State, Whole, DELAY, NEW, PROCESS, TAPS};
+pub use face::{Whole, CALLS, NEW, PROCESS};
+use face::{State, DELAY, TAPS};
 
 pub fn compare(plan: &Plan, report: &mut Report) {
     making(report);
@@ -36,7 +36,7 @@ pub fn compare(plan: &Plan, report: &mut Report) {
     filters::compare(&trials, plan, report);
 }
 
-fn of_lengths(is_usb: bool, taps: usize, q: usize, i: usize) -> Whole {
+pub fn of_lengths(is_usb: bool, taps: usize, q: usize, i: usize) -> Whole {
     Whole {
         state: State { is_usb },
         taps: marks(taps, 1),

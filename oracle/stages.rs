@@ -6,9 +6,12 @@
 // runs it.
 
 mod call;
+mod differences;
+mod edges;
 mod falsify;
 mod original;
 mod plan;
+mod sample;
 mod steps;
 
 // Not every stage in the list below uses all of these.
@@ -33,6 +36,8 @@ mod trials;
 
 // The number work is compared with these too, and uses what is not used here.
 #[allow(dead_code)]
+mod check;
+#[allow(dead_code)]
 mod patterns;
 #[allow(dead_code)]
 mod plant;
@@ -53,9 +58,9 @@ macro_rules! stages {
             [$($stage::CALLS),+].concat()
         }
         fn compare(plan: &plan::Plan, report: &mut report::Report) {
+            edges::compare(report);
+            differences::compare(report);
             $($stage::compare(plan, report);)+
-            let calls: Vec<_> = calls().iter().map(|call| (call.name, call.gives)).collect();
-            report.numbers(&calls);
         }
     };
 }
@@ -75,9 +80,10 @@ stages! {
 }
 
 fn main() -> ExitCode {
-    if std::env::args().skip(1).eq(["--calls"]) {
-        calls().iter().for_each(|call| println!("tl_{}", call.name));
-        return ExitCode::SUCCESS;
-    }
-    plan::run(&falsify::PLANTS, compare)
+    let program = plan::Program {
+        plants: &falsify::PLANTS,
+        calls: calls().iter().map(|call| (call.name, call.gives)).collect(),
+        compare,
+    };
+    program.run()
 }

@@ -32,6 +32,15 @@ pub fn stream(rng: &mut Rng, n: usize) -> Vec<f32> {
     }
 }
 
+/// A stream; one above the limit it is silence, which the stored sample of answers has room for.
+pub fn stream_or_silence(rng: &mut Rng, n: usize) -> Vec<f32> {
+    if n == MOST + 1 {
+        vec![0.0; n]
+    } else {
+        stream(rng, n)
+    }
+}
+
 /// Even noise up to `size`.
 pub fn noise(rng: &mut Rng, n: usize, size: f64) -> Vec<f32> {
     (0..n).map(|_| (rng.unit() * size) as f32).collect()

@@ -9,7 +9,7 @@ use crate::record::Record;
 use crate::refusals::{LENGTH, MOST, NONE, ROOM, SETTING, STATE};
 use crate::report::Report;
 use crate::rng::Rng;
-use crate::streams::{hostile, length, recording, rows, spoil, stream};
+use crate::streams::{hostile, length, recording, rows, spoil, stream, stream_or_silence};
 
 /// What differs from stage to stage.
 pub struct Trials<S> {
@@ -27,11 +27,11 @@ pub fn compare<S: Record>(way: &Way<S>, trials: &Trials<S>, plan: &Plan, report:
     let mut rng = Rng::new(plan.seed, way.call.name);
     faults(way, trials, report, &mut rng);
     lengths(way, trials, report, &mut rng);
-    ends(way, trials, report);
+    ends(way, trials, report, plan.stride());
     few(way, trials, report, plan.stride());
     random(way, trials, report, &mut rng, plan.count / 2);
-    streams(way, trials, report, &mut rng, plan.count / 20_000 + 10);
-    field_return(way, trials, report, &mut rng);
+    streams(way, trials, report, &mut rng, plan);
+    field_return(way, trials, report, &mut rng, plan.stride());
 }
 
 /// An alpha, an attack or a decay.
@@ -109,10 +109,10 @@ fn faults<S: Record>(way: &Way<S>, trials: &Trials<S>, report: &mut Report, rng:
         .into_iter()
         .chain(near.into_iter().flatten())
     {
-        let input = stream(rng, n);
+        let input = stream_or_silence(rng, n);
         let steps = n / way.width;
         for state in states.into_iter().flatten() {
-            for room in rooms(way, [steps, steps.saturating_sub(1), steps + 1]) {
+            for room in rooms(way, [steps, steps.saturating_sub(1), steps + 1, 0]) {
                 way.put(&mut check, state, &input, room);
             }
         }
@@ -134,14 +134,14 @@ fn lengths<S: Record>(way: &Way<S>, trials: &Trials<S>, report: &mut Report, rng
 }
 
 /// Each float of a state, and each two of them, at the ends of the rules.
-fn ends<S: Record>(way: &Way<S>, trials: &Trials<S>, report: &mut Report) {
+fn ends<S: Record>(way: &Way<S>, trials: &Trials<S>, report: &mut Report, stride: usize) {
     let mut check = calls(way, "states at the ends", &[NONE, SETTING, STATE]);
     let input = [0.5, -0.25, 1.5, 0.0];
     for &good in trials.states.iter().take(2) {
         for state in spoilt(good, trials) {
             way.put(&mut check, state, &input, 4);
             way.put(&mut check, state, &[], 0);
-            for other in spoilt(state, trials) {
+            for other in spoilt(state, trials).into_iter().step_by(stride) {
                 way.put(&mut check, other, &input[..2], 2);
             }
         }
@@ -197,13 +197,13 @@ fn streams<S: Record>(
     trials: &Trials<S>,
     report: &mut Report,
     rng: &mut Rng,
-    rounds: u64,
+    plan: &Plan,
 ) {
     let mut cut = Laws::new(way.call, "any cut");
     let mut drop = Laws::new(way.call, "without what is struck");
-    for round in 0..rounds {
+    for round in 0..plan.count / 20_000 + 10 {
         let state = (trials.any)(rng);
-        let most = if round == 0 { MOST } else { 3000 };
+        let most = if round == 0 { plan.longest() } else { 3000 };
         let n = (most as u64 - rng.below(most as u64) / 2) as usize / way.width * way.width;
         let fed = Fed { way, state };
         let samples = stream(rng, n);
@@ -218,12 +218,18 @@ fn streams<S: Record>(
 
 /// A long recording with a burst in its middle: NaNs, infinities and what overflows. Afterwards the
 /// stage hears on, bit for bit as if the struck samples had not been there.
-fn field_return<S: Record>(way: &Way<S>, trials: &Trials<S>, report: &mut Report, rng: &mut Rng) {
+fn field_return<S: Record>(
+    way: &Way<S>,
+    trials: &Trials<S>,
+    report: &mut Report,
+    rng: &mut Rng,
+    stride: usize,
+) {
     let mut law = Laws::new(way.call, "field return: a burst");
     for state in trials.states.iter().take(trials.usual) {
-        let mut samples = recording(rng, 20_000);
-        let burst = &mut samples[9_000..9_400];
-        spoil(rng, burst, 1);
+        let mut samples = recording(rng, 20_000 / stride.min(8));
+        let middle = samples.len() / 2;
+        spoil(rng, &mut samples[middle..middle + 400], 1);
         let fed = Fed { way, state: *state };
         law.drop(rng, &fed, &samples);
         law.hears(&fed, &samples);

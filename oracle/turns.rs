@@ -20,8 +20,8 @@ pub fn compare(plan: &Plan, report: &mut Report) {
 }
 
 fn near_the_library(plan: &Plan, report: &mut Report) {
-    let mut sine = Check::new("sine, |x| to 64, near Rust's", NEAR);
-    let mut cosine = Check::new("cosine, |x| to 64, near Rust's", NEAR);
+    let mut sine = Check::of("sine", "|x| to 64, near Rust's", NEAR);
+    let mut cosine = Check::of("cosine", "|x| to 64, near Rust's", NEAR);
     let mut put = |x: f64| {
         let (s, c) = (tl_sine(x), tl_cosine(x));
         sine.within(x, s, x.sin(), (s - x.sin()).abs());
@@ -44,8 +44,8 @@ fn near_the_library(plan: &Plan, report: &mut Report) {
 }
 
 fn as_the_steps(plan: &Plan, report: &mut Report) {
-    let mut sine = Check::new("sine, as the steps", Bound::Exact);
-    let mut cosine = Check::new("cosine, as the steps", Bound::Exact);
+    let mut sine = Check::of("sine", "as the steps", Bound::Exact);
+    let mut cosine = Check::of("cosine", "as the steps", Bound::Exact);
     let mut put = |x: f64| {
         sine.equal(x, tl_sine(x), steps::sine(x));
         cosine.equal(x, tl_cosine(x), steps::cosine(x));
@@ -78,8 +78,8 @@ fn angle(rng: &mut Rng) -> f64 {
 }
 
 fn as_the_steps_f32(plan: &Plan, report: &mut Report) {
-    let mut sine = Check::new("sine of f32, as the steps", Bound::Exact);
-    let mut cosine = Check::new("cosine of f32, as the steps", Bound::Exact);
+    let mut sine = Check::of("sine_f32", "as the steps", Bound::Exact);
+    let mut cosine = Check::of("cosine_f32", "as the steps", Bound::Exact);
     let mut put = |x: f32| {
         sine.equal(x, tl_sine_f32(x), steps::sine_f32(x));
         cosine.equal(x, tl_cosine_f32(x), steps::cosine_f32(x));

@@ -2,8 +2,8 @@
 # What C and Rust see of the library: the declarations against the source, the archive's symbols, the C example and the
 # C checks, the Rust crate's tests and its example, and the demo on cut pipes. It needs `make lib` and `make demo`.
 #
-# The archive is for x86-64. On another machine what has to link it is left out, and that is said, unless
-# THRESHLANTERN_LIB names a folder with an archive that can be linked there.
+# The archive that ships is for x86-64. What is linked and run here is target/here/libthreshlantern.a, and where there is
+# none, that is said. The Rust crate finds it by THRESHLANTERN_LIB.
 set -euo pipefail
 cd "$(dirname "$0")/.."
 tests/need.sh python3 nm diff cmp
@@ -65,11 +65,11 @@ tests/need.sh cc
 guide
 tests/listen.sh
 tests/demo.sh
-if [ "$(uname -m)" != x86_64 ] && [ -z "${THRESHLANTERN_LIB-}" ]; then
+export THRESHLANTERN_LIB=$PWD/target/here
+if [ ! -f "$THRESHLANTERN_LIB/libthreshlantern.a" ]; then
   echo "faces: the library is compiled for x86-64 and this machine is $(uname -m): the C programs and the Rust crate were not linked"
   exit 0
 fi
-export THRESHLANTERN_LIB=${THRESHLANTERN_LIB:-$PWD/build}
 tests/run.sh demo < captures/alarm.cu8 > "$work/demo"
 c_face
 rust_crate

@@ -99,6 +99,15 @@ impl State {
 }
 
 impl Whole {
+    /// Of this factor, with so many taps that pass everything.
+    pub fn plain(factor: usize, taps: usize) -> Whole {
+        Whole {
+            state: State { factor, phase: 0 },
+            taps: vec![1.0; taps],
+            history: vec![0.0; taps - 1],
+        }
+    }
+
     /// A small one: factor 2 and three taps.
     pub fn two(taps: [f32; 3], history: [f32; 2]) -> Whole {
         let (factor, phase) = (2, 0);
@@ -118,7 +127,7 @@ impl Whole {
         }
     }
 
-    fn original(&self) -> dsp::Decimator {
+    pub fn original(&self) -> dsp::Decimator {
         dsp::Decimator {
             taps: self.taps.clone(),
             history: self.history.clone(),

@@ -1,0 +1,2 @@
+-- A law on patterns that both widths of `floats` cite.
+mod Patterns
