@@ -2,7 +2,8 @@
 //
 // data/answers.txt has the cases and data/calls.txt the calls' names; data/README.md tells their form and how they
 // were made. Floats are held to the bit, all NaNs as one. What is proved here is that every function is safe and
-// ends, whatever the files hold; that the answers agree is what the run shows.
+// ends, whatever the files hold; that the answers agree is what the run shows. tests/vectors.py spoils the file and
+// sees that the run shows that too.
 mod answer;
 mod calls;
 mod case;
