@@ -2,10 +2,12 @@
 
 mod face;
 mod original;
+#[cfg(any(liquid, volk))]
+mod others;
 mod work;
 
 use std::time::Instant;
-use work::{Side, ELEMENTS};
+use work::{Side, Work, ELEMENTS};
 
 const HELP: &str = "\
 usage: run.sh [--rounds N] [NAME ...]
@@ -38,21 +40,43 @@ fn main() {
             _ => names.push(word),
         }
     }
-    println!("{:<36}{:>22}   {:>22}", "", "blocks of 262,144", "blocks of 2,048");
-    println!("{:<36}{:>8}{:>8}{:>6}   {:>8}{:>8}{:>6}", "ns an element", "Rust", "here", "ratio", "Rust", "here", "ratio");
-    for mut work in work::all() {
-        if !names.is_empty() && !names.iter().any(|name| work.name.starts_with(name.as_str())) {
-            continue;
-        }
-        print!("{:<36}", work.name);
-        for block in [ELEMENTS, 2048] {
-            let (mut theirs, mut ours) = (f64::MAX, f64::MAX);
-            for _ in 0..rounds {
-                theirs = theirs.min(round(&mut *work.theirs, block));
-                ours = ours.min(round(&mut *work.ours, block));
+    let measured = Measured { rounds, names };
+    measured.table("Rust", work::all());
+    #[cfg(liquid)]
+    measured.other("liquid", others::liquid());
+    #[cfg(volk)]
+    measured.other("VOLK", others::volk());
+}
+
+struct Measured {
+    rounds: usize,
+    names: Vec<String>,
+}
+
+impl Measured {
+    fn table(&self, theirs: &str, all: Vec<Work>) {
+        println!("{:<36}{:>22}   {:>22}", "", "blocks of 262,144", "blocks of 2,048");
+        println!("{:<36}{theirs:>8}{:>8}{:>6}   {theirs:>8}{:>8}{:>6}", "ns an element", "here", "ratio", "here", "ratio");
+        for mut work in all {
+            if !self.names.is_empty() && !self.names.iter().any(|name| work.name.starts_with(name.as_str())) {
+                continue;
             }
-            print!("{theirs:>8.2}{ours:>8.2}{:>6.2}   ", theirs / ours);
+            print!("{:<36}", work.name);
+            for block in [ELEMENTS, 2048] {
+                let (mut theirs, mut ours) = (f64::MAX, f64::MAX);
+                for _ in 0..self.rounds {
+                    theirs = theirs.min(round(&mut *work.theirs, block));
+                    ours = ours.min(round(&mut *work.ours, block));
+                }
+                print!("{theirs:>8.2}{ours:>8.2}{:>6.2}   ", theirs / ours);
+            }
+            println!();
         }
-        println!();
+    }
+
+    #[cfg(any(liquid, volk))]
+    fn other(&self, theirs: &str, all: Vec<Work>) {
+        println!("\nbeside {theirs}, whose bits are others");
+        self.table(theirs, all);
     }
 }

@@ -52,7 +52,7 @@ impl<F: FnMut(&mut [f32])> Side for InPlace<F> {
     }
 }
 
-fn in_place(call: impl FnMut(&mut [f32]) + 'static) -> Box<dyn Side> {
+pub fn in_place(call: impl FnMut(&mut [f32]) + 'static) -> Box<dyn Side> {
     let source = noise();
     Box::new(InPlace { data: source.clone(), source, call })
 }
@@ -70,7 +70,7 @@ impl<T, F: FnMut(&[T])> Side for Into<T, F> {
     }
 }
 
-fn from_floats(call: impl FnMut(&[f32]) + 'static) -> Box<dyn Side> {
+pub fn from_floats(call: impl FnMut(&[f32]) + 'static) -> Box<dyn Side> {
     Box::new(Into { source: noise(), call })
 }
 
@@ -78,11 +78,60 @@ fn from_bytes(call: impl FnMut(&[u8]) + 'static) -> Box<dyn Side> {
     Box::new(Into { source: bytes(), call })
 }
 
-fn room() -> Vec<f32> {
+pub fn room() -> Vec<f32> {
     vec![0.0; ELEMENTS]
 }
 
 // ---- the kinds
+
+/// A call in place whose state goes in by value and comes back.
+macro_rules! levels_of_ours {
+    ($ours:expr, $call:ident) => {{
+        let mut ours = unsafe { $ours }.state;
+        in_place(move |data| {
+            let done = unsafe { $call(ours, data.as_mut_ptr(), data.len()) };
+            assert_eq!(done.refusal, 0);
+            ours = done.state;
+        })
+    }};
+}
+
+macro_rules! levels {
+    ($name:expr, $theirs:expr, $method:ident, $ours:expr, $call:ident) => {{
+        let mut theirs = $theirs;
+        Work {
+            name: $name,
+            theirs: in_place(move |data| theirs.$method(data)),
+            ours: levels_of_ours!($ours, $call),
+        }
+    }};
+}
+
+/// One that puts an output for each pair into another slice.
+macro_rules! demodulator_of_ours {
+    ($ours:expr, $call:ident) => {{
+        let mut ours = unsafe { $ours }.state;
+        let mut b = room();
+        from_floats(move |input| {
+            let output = black_box(&mut b);
+            let done = unsafe { $call(ours, input.as_ptr(), input.len(), output.as_mut_ptr(), output.len()) };
+            assert_eq!(done.refusal, 0);
+            ours = done.state;
+        })
+    }};
+}
+
+macro_rules! demodulator {
+    ($name:expr, $theirs:expr, $ours:expr, $call:ident) => {{
+        let mut theirs = $theirs;
+        let mut a = Vec::new();
+        Work {
+            name: $name,
+            theirs: from_floats(move |input| theirs.process_into(input, black_box(&mut a))),
+            ours: demodulator_of_ours!($ours, $call),
+        }
+    }};
+}
 
 fn conversion(name: &'static str, theirs: fn(&[u8], &mut [f32]), ours: unsafe extern "C" fn(R<u8>, N, W<f32>, N) -> u32) -> Work {
     let (mut a, mut b) = (room(), room());
@@ -131,18 +180,36 @@ impl Lent {
     }
 }
 
+fn cutoff(factor: usize) -> f32 {
+    0.75 / factor as f32
+}
+
 fn decimator(name: &'static str, factor: usize, taps: usize) -> Work {
-    let cutoff = 0.75 / factor as f32;
-    let mut theirs = dsp::Decimator::new(factor, cutoff, taps);
-    let mut ours = Lent::new(factor, cutoff, taps);
-    let (mut a, mut b) = (Vec::new(), room());
+    let mut theirs = dsp::Decimator::new(factor, cutoff(factor), taps);
+    let mut a = Vec::new();
     Work {
         name,
         theirs: from_floats(move |input| theirs.process_into(input, black_box(&mut a))),
-        ours: from_floats(move |input| {
-            ours.process(input, black_box(&mut b));
-        }),
+        ours: decimator_of_ours(factor, taps),
     }
+}
+
+pub fn decimator_of_ours(factor: usize, taps: usize) -> Box<dyn Side> {
+    let mut ours = Lent::new(factor, cutoff(factor), taps);
+    let mut b = room();
+    from_floats(move |input| {
+        ours.process(input, black_box(&mut b));
+    })
+}
+
+#[cfg(any(liquid, volk))]
+pub fn fm_of_ours() -> Box<dyn Side> {
+    demodulator_of_ours!(tl_fm_new(), tl_fm_process_into)
+}
+
+#[cfg(any(liquid, volk))]
+pub fn nco_of_ours() -> Box<dyn Side> {
+    levels_of_ours!(tl_nco_new(10_000.0, 240_000.0), tl_nco_mix)
 }
 
 fn hilbert() -> Work {
@@ -178,42 +245,6 @@ fn ssb() -> Work {
             assert_eq!((done.refusal, done.count), (0, input.len() / 2));
         }),
     }
-}
-
-/// A call in place whose state goes in by value and comes back.
-macro_rules! levels {
-    ($name:expr, $theirs:expr, $method:ident, $ours:expr, $call:ident) => {{
-        let mut theirs = $theirs;
-        let mut ours = unsafe { $ours }.state;
-        Work {
-            name: $name,
-            theirs: in_place(move |data| theirs.$method(data)),
-            ours: in_place(move |data| {
-                let done = unsafe { $call(ours, data.as_mut_ptr(), data.len()) };
-                assert_eq!(done.refusal, 0);
-                ours = done.state;
-            }),
-        }
-    }};
-}
-
-/// One that puts an output for each pair into another slice.
-macro_rules! demodulator {
-    ($name:expr, $theirs:expr, $ours:expr, $call:ident) => {{
-        let mut theirs = $theirs;
-        let mut ours = unsafe { $ours }.state;
-        let (mut a, mut b) = (Vec::new(), room());
-        Work {
-            name: $name,
-            theirs: from_floats(move |input| theirs.process_into(input, black_box(&mut a))),
-            ours: from_floats(move |input| {
-                let output = black_box(&mut b);
-                let done = unsafe { $call(ours, input.as_ptr(), input.len(), output.as_mut_ptr(), output.len()) };
-                assert_eq!(done.refusal, 0);
-                ours = done.state;
-            }),
-        }
-    }};
 }
 
 fn split_remover() -> Work {
