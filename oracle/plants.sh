@@ -7,9 +7,22 @@ set -eu
 
 root=$(cd "$(dirname "${BASH_SOURCE[0]}")/.." && pwd)
 words=(--seed 1 --count 20000 "$@")
-found=0
-missed=0
-absent=0
+work=$(mktemp -d)
+trap 'rm -rf "$work"' EXIT
+
+# One plant: what the program told, and the verdict, in a file of its own.
+try() { # PROGRAM PLANT
+  ended=0
+  lines=$("$root/target/oracle/$1" "${words[@]}" --plant "$2") || ended=$?
+  told=$(grep "^plant $2: " <<<"$lines" || true)
+  case "$ended $told" in
+    "0 plant $2: no call here"*) verdict='not planted here' ;;
+    *": 0 planted, 0 missed") verdict='MISSED: it fits no call' ;;
+    "1 plant $2: "*" planted, 0 missed") verdict=found ;;
+    *) verdict="MISSED: exit status $ended" ;;
+  esac
+  echo "$1: ${told:-plant $2}: $verdict" >"$work/$1.$2"
+}
 
 for program in numbers stages; do
   built=$root/target/oracle/$program
@@ -27,23 +40,14 @@ for program in numbers stages; do
     echo "plants: $program differs with nothing planted"
     exit 1
   fi
+  # Two at a time.
   while read -r plant _; do
-    ended=0
-    lines=$("$built" "${words[@]}" --plant "$plant") || ended=$?
-    told=$(grep "^plant $plant: " <<<"$lines" || true)
-    case "$ended $told" in
-      "0 plant $plant: no call here"*) verdict='not planted here' ;;
-      *": 0 planted, 0 missed") verdict='MISSED: it fits no call' ;;
-      "1 plant $plant: "*" planted, 0 missed") verdict=found ;;
-      *) verdict="MISSED: exit status $ended" ;;
-    esac
-    echo "$program: ${told:-plant $plant}: $verdict"
-    case "$verdict" in
-      found) found=$((found + 1)) ;;
-      not*) absent=$((absent + 1)) ;;
-      *) missed=$((missed + 1)) ;;
-    esac
+    while [ "$(jobs -rp | wc -l)" -ge 2 ]; do wait -n; done
+    try "$program" "$plant" &
   done <<<"$list"
+  wait
+  while read -r plant _; do cat "$work/$program.$plant"; done <<<"$list"
 done
-echo "plants: $found found, $missed missed, $absent not planted here"
-[ "$missed" = 0 ]
+count() { cat "$work"/*.* 2>/dev/null | grep -c ": $1" || true; }
+echo "plants: $(count found) found, $(count MISSED) missed, $(count 'not planted here') not planted here"
+[ "$(count MISSED)" = 0 ]
