@@ -50,6 +50,7 @@ KEEP
 chmod +x "$stand/on/$machine/toolchain/bin/clang"
 RATTLE_HOME=$stand rt staticlib threshlantern
 ship
+rm -rf "$stand"
 if [ ! -f "$here/module.bc" ]; then
   echo "lib: the compiler was handed no module, so there is no archive for this machine"
   exit 0
