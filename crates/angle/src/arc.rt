@@ -6,9 +6,10 @@
 // takes one: so there is no branch, and a loop over `arctangent` can be worked several samples at a time.
 ghost use mathlib.Core.Path.{_≡_};
 ghost use mathlib.Core.Bool.{false, cond, _||_};
-ghost use lib.Ieee.{nan, inf, lt, eq, isNan};
-ghost use Rattle.angle.specs.Numbers.{one, nought, bound};
-ghost use Rattle.angle.specs.Arc.{odds, oddNumbers, base, inner, flat, quotient, smaller, greater, steep, mirrored, turned, arctan};
+ghost use lib.Ieee.{nan, inf, binary64, sub, lt, eq, isNan};
+ghost use Rattle.angle.specs.Numbers.{half, one, nought, bound};
+ghost use Rattle.angle.specs.Arc.{odds, oddNumbers, base, inner, flat, quotient, smaller, greater, mirrored, turned, arctan};
+ghost use Rattle.angle.specs.Parts.{ratio, pointed};
 
 const HALF: f64 = 1.5707963267948966;
 
@@ -20,11 +21,28 @@ const BOUND: f64 = 0.41421356237309503;
 pub fn arctangent(y: f64, x: f64) -> f64
     ensures { λ a. ⌜ a ≡ arctan y x ⌝ }
 {
-    let a = first_quarter(
+    angle_to(y, x, flat_angle(ratio_of(y, x)))
+}
+
+// The smaller magnitude divided by the greater.
+pub(crate) fn ratio_of(y: f64, x: f64) -> f64
+    ensures { λ q. ⌜ q ≡ ratio y x ⌝ }
+{
+    let b = number::kinds::magnitude_f64(y);
+    let c = number::kinds::magnitude_f64(x);
+    divided(smaller_of(b, c), greater_of(b, c))
+}
+
+// From the angle of the ratio to that of the point.
+pub(crate) fn angle_to(y: f64, x: f64, a: f64) -> f64
+    ensures { λ b. ⌜ b ≡ pointed y x a ⌝ }
+{
+    let b = steepened(
         number::kinds::magnitude_f64(y),
         number::kinds::magnitude_f64(x),
+        a,
     );
-    of_numbers(y, x, turn_to(y, x, a))
+    of_numbers(y, x, turn_to(y, x, b))
 }
 
 // The angle a, but NaN where y or x is.
@@ -40,11 +58,10 @@ fn of_numbers(y: f64, x: f64, a: f64) -> f64
     a
 }
 
-// From two magnitudes, the angle in the first quarter.
-fn first_quarter(y: f64, x: f64) -> f64
-    ensures { λ a. ⌜ a ≡ steep y x ⌝ }
+// From two magnitudes: PI / 2 - a where y is the greater, else a.
+fn steepened(y: f64, x: f64, a: f64) -> f64
+    ensures { λ b. ⌜ b ≡ cond (lt x y) (sub binary64 half a) a ⌝ }
 {
-    let a = flat_angle(divided(smaller_of(y, x), greater_of(y, x)));
     if y > x {
         return HALF - a;
     }
@@ -52,7 +69,7 @@ fn first_quarter(y: f64, x: f64) -> f64
 }
 
 // The angle whose tangent is q, from 0 to 1.
-fn flat_angle(q: f64) -> f64
+pub(crate) fn flat_angle(q: f64) -> f64
     ensures { λ a. ⌜ a ≡ flat q ⌝ }
 {
     let u = inner_of(q);

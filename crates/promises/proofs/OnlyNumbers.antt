@@ -66,6 +66,9 @@ cosine-f32 h x y = one-answer (λ r. (r, (tt, tt)))
 pub arctangent-f32 : NoSecond angle.single.arctangent_f32.ended angle.single.arctangent_f32.Reads.Learnt
 arctangent-f32 h x y = one-answer (λ r. (r, (tt, (tt, tt))))
 
+pub arctangents-f32 : NoSecond angle.lanes.arctangents_f32.ended angle.lanes.arctangents_f32.Reads.Learnt
+arctangents-f32 h x y = one-answer (λ r. (r, (tt, (tt, tt))))
+
 -- ---- stage
 
 pub refusal : NoSecond stage.refusal.ended stage.refusal.Reads.Learnt

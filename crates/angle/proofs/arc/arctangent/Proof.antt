@@ -1,39 +1,22 @@
--- `angle::arc::arctangent` meets its contract. Assumes nothing.
+-- `angle::arc::arctangent` meets its contract: it is its three parts. Assumes nothing.
+use Rattle.angle.specs.Arc.{steep, arctan}
 use borrow.Author.Needs.{needs}
-use Rattle.angle.specs.Arc.{arctan}
 use Rattle.angle.proofs.arc.arctangent.Statement.{statement}
 use Rattle.angle.proofs.arc.arctangent.Tie as tie
 
-magnitude-f64-requires : tie.Need-magnitude-f64-requires
-magnitude-f64-requires c κs = search needs
+ratio-of-requires : tie.Need-ratio-of-requires
+ratio-of-requires c κs = search needs
 
-magnitude-f64-requires-2 : tie.Need-magnitude-f64-requires-2
-magnitude-f64-requires-2 c κs = search needs
+flat-angle-requires : tie.Need-flat-angle-requires
+flat-angle-requires c κs = search needs
 
-first-quarter-requires : tie.Need-first-quarter-requires
-first-quarter-requires c κs = search needs
-
-turn-to-requires : tie.Need-turn-to-requires
-turn-to-requires c κs = search needs
-
-of-numbers-requires : tie.Need-of-numbers-requires
-of-numbers-requires c κs = search needs
+angle-to-requires : tie.Need-angle-to-requires
+angle-to-requires c κs = search needs
 
 returns : tie.Need-returns
-unfolding arctan
-returns c =
-    let t = c .before in
-    let q = t .before in
-    let second = q .before in
-    rw (c .of-numbers .ensures, t .turn-to .ensures, q .first-quarter .ensures, second .magnitude-f642 .ensures, second .before .magnitude-f64 .ensures)
+unfolding arctan steep
+returns c = rw (c .angle-to .ensures, c .before .flat-angle .ensures, c .before .before .ratio-of .ensures)
 
 pub arctangent-spec : {M : Type 1} → statement M
 arctangent-spec =
-    tie.close
-    (tie.spec
-    magnitude-f64-requires
-    magnitude-f64-requires-2
-    first-quarter-requires
-    turn-to-requires
-    of-numbers-requires
-    returns)
+    tie.close (tie.spec ratio-of-requires flat-angle-requires angle-to-requires returns)
