@@ -3,6 +3,8 @@
 pub mod Ways
 pub mod Hang
 pub mod Sound
+-- a signal's step whose floats are finite keeps its sample
+pub mod Tried
 -- demand 3: a stream cut into calls, and the struck samples dropped
 pub mod Streams
 pub mod Struck

@@ -19,6 +19,10 @@ keepStep out gain envelope hang = cond (bothFinite out gain && finite envelope) 
 unfoldable pub deadStep : AudioAgc → Float → Float → AudioStep
 deadStep s envelope x = keepStep (mul binary32 x (deadGain (s .gain))) (deadGain (s .gain)) envelope (s .«hang_counter» - 1)
 
+-- x within -1 and 1
+abbrev pub clampOne : Float → Float
+clampOne x = clampOf (neg one) one x
+
 -- else the output is clamped to -1..1
 unfoldable pub loudStep : Float → Float → Float → ℕ → AudioStep
 loudStep x gain envelope hang = keepStep (clampOf (neg one) one (mul binary32 x gain)) gain envelope hang

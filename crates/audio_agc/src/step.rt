@@ -4,11 +4,18 @@ use crate::level;
 ghost use mathlib.Core.Path.{_≡_};
 ghost use Prim.Native.Nat.{_-_};
 ghost use Rattle.audio_agc.specs.Step.{keepStep, loudStep, deadStep, liveStep, audioStep};
+ghost use Rattle.audio_agc.specs.Moved.{Moves};
 
 // Struck, or the output and the new gain, envelope and hang counter.
 pub enum AudioStep {
     Struck,
     Kept(f32, f32, f32, usize),
+}
+
+// What a signal moves.
+pub struct Moved {
+    pub gain: f32,
+    pub hang: usize,
 }
 
 // The step of `process`. An envelope below the floor is dead air.
@@ -31,20 +38,36 @@ fn dead(s: AudioAgc, envelope: f32, x: f32) -> AudioStep
     keep(x * gain, gain, envelope, one_less(s.hang_counter))
 }
 
-// A signal: the gain falls at once, hangs, then rises.
+// A signal.
 fn live(s: AudioAgc, envelope: f32, x: f32) -> AudioStep
     ensures { λ r. ⌜ r ≡ liveStep s envelope x ⌝ }
 {
+    let next = follow(s, envelope);
+    loud(x, next.gain, envelope, next.hang)
+}
+
+// The gain and the hang counter after a signal of this envelope: the gain falls at once, hangs, then rises.
+pub fn follow(s: AudioAgc, envelope: f32) -> Moved
+    ensures { λ r. ⌜ Moves s envelope (r .gain) (r .hang) ⌝ }
+{
     let error = s.target / (envelope + 1e-6);
     if error < s.gain {
-        let gain = stage::blend(s.attack, s.gain, error);
-        return loud(x, gain, envelope, s.hang_time_samples);
+        return Moved {
+            gain: stage::blend(s.attack, s.gain, error),
+            hang: s.hang_time_samples,
+        };
     }
     if 0 < s.hang_counter {
-        return loud(x, s.gain, envelope, s.hang_counter - 1);
+        return Moved {
+            gain: s.gain,
+            hang: s.hang_counter - 1,
+        };
     }
     let part = level::slow_decay(s.decay, s.min_magnitude, envelope);
-    loud(x, stage::blend(part, s.gain, error), envelope, 0)
+    Moved {
+        gain: stage::blend(part, s.gain, error),
+        hang: 0,
+    }
 }
 
 // The output clamped to -1..1.

@@ -4,10 +4,14 @@
 // and an answer travel by value. `specs/Step.antt` has the step, `specs/State.antt` what is demanded of a
 // state, and a fresh one, `specs/Process.antt` what the three calls give, accepted or refused,
 // `specs/Cases.antt` the marked cases 8 and 9. proofs/ shows that cutting a stream into calls and dropping
-// the struck samples change nothing else, and that no call makes a state that a later one refuses. No function
-// here has a `requires`.
+// the struck samples change nothing else, and that no call makes a state that a later one refuses. The calls
+// work block by block (`block.rt`): a block is tried without a test at each sample (`trial.rt`), and worked in
+// the plain form (`plain.rt`) where a sample of it is struck. No public function here has a `requires`.
+mod block;
+mod plain;
 mod process;
 mod step;
+mod trial;
 
 ghost use mathlib.Core.Path.{_≡_};
 ghost use mathlib.Core.Bool.{true};

@@ -1,12 +1,9 @@
-// The three calls that take the mean off, in place: mono, interleaved, and I and Q in two slices.
+// The three calls that take the mean off, in place: mono, interleaved, and I and Q in two slices. Each works block by
+// block, from the state that the block before gave.
 use crate::DcRemover;
 use crate::DcRemoverDone;
-use crate::step::MonoStep;
-use crate::step::PairStep;
-use crate::step::mono_step;
-use crate::step::pair_step;
+use crate::plain::shorter;
 ghost use mathlib.Core.Path.{_≡_};
-ghost use Prim.Native.Nat.{min};
 ghost use Rattle.dc_remover.specs.Process.{given, processMono, process, processSplit};
 
 impl DcRemover {
@@ -20,19 +17,13 @@ impl DcRemover {
             return self.answer(refusal, 0);
         }
         let mut struck: usize = 0;
-        let mut i: usize = 0;
-        while i < data.len() {
-            match mono_step(self.alpha, self.avg_i, data[i]) {
-                MonoStep::Struck => {
-                    data[i] = 0.0;
-                    struck += 1;
-                }
-                MonoStep::Kept(out, mean) => {
-                    data[i] = out;
-                    self.avg_i = mean;
-                }
-            }
-            i += 1;
+        let mut k: usize = 0;
+        while k < data.len() {
+            let e = shorter(data.len(), k + 16);
+            let done = self.block_mono(&mut data[k..e]);
+            struck += done.struck;
+            self = done.state;
+            k = e;
         }
         self.answer(stage::NONE, struck)
     }
@@ -47,22 +38,13 @@ impl DcRemover {
             return self.answer(refusal, 0);
         }
         let mut struck: usize = 0;
-        let mut i: usize = 0;
-        while i < data.len() {
-            match pair_step(self.alpha, self.avg_i, self.avg_q, data[i], data[i + 1]) {
-                PairStep::Struck => {
-                    data[i] = 0.0;
-                    data[i + 1] = 0.0;
-                    struck += 1;
-                }
-                PairStep::Kept(out_i, out_q, mean_i, mean_q) => {
-                    data[i] = out_i;
-                    data[i + 1] = out_q;
-                    self.avg_i = mean_i;
-                    self.avg_q = mean_q;
-                }
-            }
-            i += 2;
+        let mut k: usize = 0;
+        while k < data.len() {
+            let e = shorter(data.len(), k + 64);
+            let done = self.block_pairs(&mut data[k..e]);
+            struck += done.struck;
+            self = done.state;
+            k = e;
         }
         self.answer(stage::NONE, struck)
     }
@@ -80,28 +62,12 @@ impl DcRemover {
         let n = shorter(i.len(), q.len());
         let mut k: usize = 0;
         while k < n {
-            match pair_step(self.alpha, self.avg_i, self.avg_q, i[k], q[k]) {
-                PairStep::Struck => {
-                    i[k] = 0.0;
-                    q[k] = 0.0;
-                    struck += 1;
-                }
-                PairStep::Kept(out_i, out_q, mean_i, mean_q) => {
-                    i[k] = out_i;
-                    q[k] = out_q;
-                    self.avg_i = mean_i;
-                    self.avg_q = mean_q;
-                }
-            }
-            k += 1;
+            let e = shorter(n, k + 64);
+            let done = self.block_split(&mut i[k..e], &mut q[k..e]);
+            struck += done.struck;
+            self = done.state;
+            k = e;
         }
         self.answer(stage::NONE, struck)
     }
-}
-
-// The length of the shorter slice.
-fn shorter(a: usize, b: usize) -> usize
-    ensures { λ r. ⌜ r ≡ min a b ⌝ }
-{
-    if a < b { a } else { b }
 }

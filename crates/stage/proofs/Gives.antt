@@ -6,7 +6,7 @@ use Rattle.stage.specs.Refusal.{NONE}
 use Rattle.stage.specs.Run.{outs, end, strikes}
 use Rattle.stage.specs.Lent.{Lent}
 use Rattle.stage.specs.Stage.{Stage}
-use Rattle.stage.specs.Call.{refusedWith, numberOf, ran, call}
+use Rattle.stage.specs.Call.{Given, refusedWith, numberOf, ran, call}
 use Rattle.stage.proofs.Refusals.{met, refused-gives, run-gives}
 
 -- a step answered r, its definition is u, and a `match` told that r is t: so t's meaning is that of the definition
@@ -26,3 +26,7 @@ module _ {A S X : Type 0} (g : Stage A A S) (l : Lent A X) (s : S) (x : X) (n : 
       → t ≡ end (g .step) s (l .samples x) → k ≡ strikes (g .step) s (l .samples x)
       → record { refusal = NONE; state = t; struck = k; left = y } ≡ call g l s x
   gives-run t k y z a b d = rw (a, b, d) (run-gives (numberOf g l s x) (ran g l s x) (refusedWith (numberOf g l s x) s x) (sym is ∙ z))
+
+  -- the same where the code knows what the whole run gives
+  pub gives-ran : (r : Given S X) → n ≡ NONE → r ≡ ran g l s x → r ≡ call g l s x
+  gives-ran r z e = e ∙ run-gives (numberOf g l s x) (ran g l s x) (refusedWith (numberOf g l s x) s x) (sym is ∙ z)

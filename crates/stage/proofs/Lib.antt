@@ -40,5 +40,10 @@ pub mod LoopMono
 pub mod LoopInterleaved
 pub mod LoopSplit
 pub mod LoopInto
+-- a block tried without a test at each sample, and a run worked part by part
+pub mod AllFinite
+pub mod Trial
+pub mod InParts
+pub mod SplitParts
 -- what a call gives, from what its code knows
 pub mod Gives

@@ -16,7 +16,7 @@ use Rattle.stage.proofs.Going.{Going, tally, tally-le, going-begins, go
 
 module _ {X : Type 0} where
   -- a pair written at i, the places before it being whole pairs
-  pairs-set : (xs : List X) (i : ℕ) (o : X × X) → i % 2 ≡ 0 → i + 1 < length xs
+  pub pairs-set : (xs : List X) (i : ℕ) (o : X × X) → i % 2 ≡ 0 → i + 1 < length xs
       → pairs (take (i + 2) (set (set xs i (o .0)) (i + 1) (o .1))) ≡ pairs (take i xs) ++ (o ∷ [])
   pairs-set xs i o even h =
       let e₁ : i + 1 ≡ suc i = add-one i in

@@ -34,7 +34,7 @@ module _ {X : Type 0} where
   zip-nil (x ∷ xs) = refl
 
   -- from the end of the shorter on there are none
-  zip-past : (xs ys : List X) (i : ℕ) → min (length xs) (length ys) ≤ i → _≡_ {A = List (X × X)} (zip (drop i xs) (drop i ys)) []
+  pub zip-past : (xs ys : List X) (i : ℕ) → min (length xs) (length ys) ≤ i → _≡_ {A = List (X × X)} (zip (drop i xs) (drop i ys)) []
   zip-past xs ys i h = go (decLe (length xs) (length ys))
     where
       go : Dec (length xs ≤ length ys) → _≡_ {A = List (X × X)} (zip (drop i xs) (drop i ys)) []

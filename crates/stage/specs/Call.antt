@@ -13,6 +13,10 @@ pub record Given (S X : Type 0) : Type 0 where
   -- what is lent, as it stands after the call
   pub left : X
 
+-- accepted: the state t after it, k samples struck, and y left
+abbrev pub gave : {S X : Type 0} → S → ℕ → X → Given S X
+gave t k y = record { refusal = NONE; state = t; struck = k; left = y }
+
 -- refused: the state handed in, a count of 0, and no place of what is lent changed
 abbrev pub refusedWith : {S X : Type 0} → ℕ → S → X → Given S X
 refusedWith number s x = record { refusal = number; state = s; struck = 0; left = x }

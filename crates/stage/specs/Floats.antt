@@ -1,6 +1,7 @@
--- What the stages' f32 work is made of: +0.0, 1.0 and 2.0, a whole number, the test that strikes, the blend. Definitions only.
+-- What the stages' f32 work is made of: +0.0, 1.0 and 2.0, a whole number, the tests that strike, the blend. Definitions only.
 use Prim.Native.Nat.{ℕ}
-use mathlib.Core.Bool.{Bool, _&&_}
+use mathlib.Core.Bool.{Bool, true, _&&_}
+use mathlib.Core.List.{List, [], _∷_}
 use lib.IntN.{pos}
 use lib.Ieee.{Float, binary32, ofBits, ofInt, add, sub, mul}
 use lib.Ieee.Scale.{finite}
@@ -22,6 +23,11 @@ whole n = ofInt binary32 (pos n)
 -- neither is NaN or an infinity
 abbrev pub bothFinite : Float → Float → Bool
 bothFinite a b = finite a && finite b
+
+-- none of a list is
+abbrev pub allFinite : List Float → Bool
+allFinite [] = true
+allFinite (x ∷ xs) = finite x && allFinite xs
 
 -- (1 - a) * old + a * new in f32, each operation rounded
 abbrev pub blendOf : Float → Float → Float → Float

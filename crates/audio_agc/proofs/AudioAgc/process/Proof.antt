@@ -1,23 +1,23 @@
--- `audio_agc::AudioAgc::process` meets its contract: its loop is that of a stage over samples in place, and where the number refuses nothing is done. Assumes nothing.
-use Prim.Native.Nat.{_-_}
-use mathlib.Core.Path.{_∙_}
-use mathlib.Core.Logic.{⊎-elim}
-use lib.ListN.{length}
-use lib.Ieee.{nan}
-use Rattle.stage.specs.Floats.{plusZero}
+-- `audio_agc::AudioAgc::process` meets its contract: its loop goes on by a block whose run is the definition's, and where the number refuses nothing is done. Assumes nothing.
+use Prim.Native.Nat.{_-_, _≤_}
+use native.Mathlib.Omega.{arith}
+use mathlib.Core.Path.{_≡_, refl, _∙_}
+use lib.ListN.{length, take, drop, length-drop}
+use lib.Seq.{length-take-le}
 use Rattle.stage.specs.Lent.{mono}
-use Rattle.stage.proofs.LoopMono.{MonoLoop, mono-begins, mono-turns, mono-ends}
-use Rattle.stage.proofs.Gives.{told, gives-refused, gives-run}
-use Rattle.audio_agc.specs.Process.{audioMeans, audioAnswer, audioStage}
+use Rattle.stage.specs.Call.{gave}
+use Rattle.stage.proofs.Gives.{gives-refused, gives-ran}
+use Rattle.stage.proofs.InParts.{PartLoop, mono-row, part-begins, part-few, part-turns, part-ends}
+use Rattle.audio_agc.specs.Process.{given, audioStage}
 use borrow.Author.Needs.{needs}
 use Rattle.audio_agc.proofs.AudioAgc.process.Statement.{statement}
 use Rattle.audio_agc.proofs.AudioAgc.process.Tie as tie
 
 abbrev Inv-loop : tie.InvT-loop
-Inv-loop self₀ data₀ refusal struck₀ i₀ self «data» struck i = MonoLoop audioAnswer plusZero self₀ data₀ «data» self struck i
+Inv-loop self₀ data₀ refusal struck₀ k₀ self «data» struck k = PartLoop audioStage mono self₀ data₀ «data» self struck k
 
 abbrev μ-loop : tie.MeasureT-loop
-μ-loop self₀ data₀ refusal struck₀ i₀ self «data» struck i = length data₀ - i
+μ-loop self₀ data₀ refusal struck₀ k₀ self «data» struck k = length data₀ - k
 
 within-requires : tie.Need-within-requires Inv-loop μ-loop
 within-requires c κs = search needs
@@ -36,53 +36,48 @@ returns c =
     (gives-refused audioStage mono (s .self) (s .«data» .now) (n .number .result) (n .number .ensures ∙ rw (n .before .within .ensures)) (c .before .if1 .taken))
 
 loop-holds : tie.Need-loop-holds Inv-loop μ-loop
-loop-holds c = mono-begins audioAnswer plusZero _ _
+loop-holds c = part-begins audioStage mono (mono-row audioStage) _ _
 
-mul-audio-step : tie.Need-mul-audio-step Inv-loop μ-loop
-mul-audio-step c = search needs
+add-least : tie.Need-add-least Inv-loop μ-loop
+add-least c = search needs
 
-slice-read-audio-step : tie.Need-slice-read-audio-step Inv-loop μ-loop
-slice-read-audio-step c = search needs
+least-requires : tie.Need-least-requires Inv-loop μ-loop
+least-requires c κs = search needs
 
-audio-step-requires : tie.Need-audio-step-requires Inv-loop μ-loop
-audio-step-requires c κs = search needs
+mul-block : tie.Need-mul-block Inv-loop μ-loop
+mul-block c = search needs
 
-enum-told : tie.Need-enum-told Inv-loop μ-loop
-enum-told c = search needs
+sub-block : tie.Need-sub-block Inv-loop μ-loop
+sub-block c = search needs
 
-mul-data : tie.Need-mul-data Inv-loop μ-loop
-mul-data c = search needs
+part-block-start : tie.Need-part-block-start Inv-loop μ-loop
+part-block-start c = search needs
 
-slice-write-data : tie.Need-slice-write-data Inv-loop μ-loop
-slice-write-data c = search needs
+part-block-end : tie.Need-part-block-end Inv-loop μ-loop
+part-block-end c = search needs
+
+block-requires : tie.Need-block-requires Inv-loop μ-loop
+block-requires c κs = search needs
 
 add-struck : tie.Need-add-struck Inv-loop μ-loop
-add-struck c = search needs
-
-enum-known-out : tie.Need-enum-known-out Inv-loop μ-loop
-enum-known-out c = search needs
-
-mul-data-2 : tie.Need-mul-data-2 Inv-loop μ-loop
-mul-data-2 c = search needs
-
-slice-write-data-2 : tie.Need-slice-write-data-2 Inv-loop μ-loop
-slice-write-data-2 c = search needs
-
-add-i : tie.Need-add-i Inv-loop μ-loop
-add-i c = search needs
+add-struck c =
+    let b = c .before .before .before in
+    let l = b .before .before .before .before .loop in
+    let e = b .before .before .least .result in
+    let size = length-take-le (e - l .k) (drop (l .k) (l .«data»)) (rw length-drop (omega arith)) in
+    let few = part-few audioStage mono (mono-row audioStage) (l .self) (take (e - l .k) (drop (l .k) (l .«data»))) (given (b .block .result) (b .block .last .1 .0)) (b .block .ensures) in
+    search needs
 
 loop-less : tie.Need-loop-less Inv-loop μ-loop
 loop-less c = search needs
 
 loop-again : tie.Need-loop-again Inv-loop μ-loop
 loop-again c =
-    let t = c .before .before .before in
-    let l = t .before .loop in
-    let e = c .before .audio-step .ensures in
-    ⊎-elim
-    (λ w. rw (w .2, w .3, w .4) (mono-turns audioAnswer plusZero nan (l .inv) (t .loop-test .taken) (told (audioMeans (l .self)) e (w .1 .given .1))))
-    (λ w. rw (w .3, w .4, w .5) (mono-turns audioAnswer plusZero nan (l .inv) (t .loop-test .taken) (told (audioMeans (l .self)) e (w .1 .given .1))))
-    (c .match .came)
+    let b = c .before .before .before .before in
+    let l = b .before .before .before .before .loop in
+    let e = b .before .before .least .result in
+    let size = length-take-le (e - l .k) (drop (l .k) (l .«data»)) (rw length-drop (omega arith)) in
+    part-turns audioStage mono (mono-row audioStage) e (given (b .block .result) (b .block .last .1 .0)) (l .inv) (omega arith) (omega arith) refl (b .block .ensures) (b .block .kept .1 .0 ∙ size)
 
 answer-requires-2 : tie.Need-answer-requires-2 Inv-loop μ-loop
 answer-requires-2 c κs = search needs
@@ -95,9 +90,8 @@ returns-2 c =
     let l = c .before .before in
     let n = l .before .before in
     let s = n .before .before .before .args in
-    let e = mono-ends audioAnswer plusZero (l .loop .inv) (c .before .loop-test .left) in
     rw (c .answer2 .ensures)
-    (gives-run audioStage mono (s .self) (s .«data» .now) (n .number .result) (n .number .ensures ∙ rw (n .before .within .ensures)) _ _ _ (l .before .if1 .left) (e .0) (e .1) (e .2))
+    (gives-ran audioStage mono (s .self) (s .«data» .now) (n .number .result) (n .number .ensures ∙ rw (n .before .within .ensures)) _ (l .before .if1 .left) (part-ends audioStage mono (mono-row audioStage) (l .loop .inv) (c .before .loop-test .left)))
 
 pub process-spec : {M : Type 1} → statement M
 process-spec =
@@ -110,17 +104,14 @@ process-spec =
     answer-requires
     returns
     loop-holds
-    mul-audio-step
-    slice-read-audio-step
-    audio-step-requires
-    enum-told
-    mul-data
-    slice-write-data
+    add-least
+    least-requires
+    mul-block
+    sub-block
+    part-block-start
+    part-block-end
+    block-requires
     add-struck
-    enum-known-out
-    mul-data-2
-    slice-write-data-2
-    add-i
     loop-less
     loop-again
     answer-requires-2

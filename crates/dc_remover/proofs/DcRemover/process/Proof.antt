@@ -1,25 +1,24 @@
--- `dc_remover::DcRemover::process` meets its contract: its loop is that of a stage over interleaved pairs in place, and where the number refuses nothing is done. Assumes nothing.
-use Prim.Native.Nat.{_-_}
+-- `dc_remover::DcRemover::process` meets its contract: its loop goes on by a block whose run is the definition's, and where the number refuses nothing is done. Assumes nothing.
+use Prim.Native.Nat.{_-_, _≤_, _%_}
 use native.Mathlib.Omega.{arith}
-use mathlib.Core.Path.{_∙_}
-use mathlib.Core.Logic.{⊎-elim}
-use lib.ListN.{length, length-set}
-use lib.Ieee.{nan}
-use Rattle.stage.specs.Floats.{plusZero}
+use mathlib.Core.Path.{_≡_, refl, _∙_}
+use lib.ListN.{length, take, drop, length-drop}
+use lib.Seq.{length-take-le}
+use borrow.Author.Tests.{eqb-true, eq-eqb}
 use Rattle.stage.specs.Lent.{interleaved}
-use Rattle.stage.proofs.LoopInterleaved.{InterleavedLoop, interleaved-begins, interleaved-turns, interleaved-ends}
-use Rattle.stage.proofs.Gives.{told, gives-refused, accepted-even, gives-run}
-use Rattle.dc_remover.specs.Step.{pairMeans, pairAnswer}
-use Rattle.dc_remover.specs.Process.{pairStage}
+use Rattle.stage.specs.Call.{gave}
+use Rattle.stage.proofs.Gives.{gives-refused, accepted-even, gives-ran}
+use Rattle.stage.proofs.InParts.{PartLoop, interleaved-row, part-begins, part-few, part-turns, part-ends}
+use Rattle.dc_remover.specs.Process.{given, pairStage}
 use borrow.Author.Needs.{needs}
 use Rattle.dc_remover.proofs.DcRemover.process.Statement.{statement}
 use Rattle.dc_remover.proofs.DcRemover.process.Tie as tie
 
 abbrev Inv-loop : tie.InvT-loop
-Inv-loop self₀ data₀ refusal struck₀ i₀ self «data» struck i = InterleavedLoop pairAnswer (plusZero, plusZero) self₀ data₀ «data» self struck i
+Inv-loop self₀ data₀ refusal struck₀ k₀ self «data» struck k = (k % 2 ≡ 0) × (length data₀ % 2 ≡ 0) × PartLoop pairStage interleaved self₀ data₀ «data» self struck k
 
 abbrev μ-loop : tie.MeasureT-loop
-μ-loop self₀ data₀ refusal struck₀ i₀ self «data» struck i = length data₀ - i
+μ-loop self₀ data₀ refusal struck₀ k₀ self «data» struck k = length data₀ - k
 
 within-requires : tie.Need-within-requires Inv-loop μ-loop
 within-requires c κs = search needs
@@ -45,80 +44,58 @@ loop-holds c =
     let n = c .before in
     let s = n .before .before .before .before .args in
     let whole = accepted-even pairStage interleaved (s .self) (s .«data» .now) (n .number .result) (n .number .ensures ∙ rw (n .before .even .ensures, n .before .before .within .ensures)) (c .if1 .left) in
-    interleaved-begins pairAnswer (plusZero, plusZero) (s .self) (s .«data» .now) whole
+    (refl, eqb-true _ _ whole, part-begins pairStage interleaved (interleaved-row pairStage) _ _)
 
-mul-pair-step : tie.Need-mul-pair-step Inv-loop μ-loop
-mul-pair-step c = search needs
+add-shorter : tie.Need-add-shorter Inv-loop μ-loop
+add-shorter c = search needs
 
-slice-read-pair-step : tie.Need-slice-read-pair-step Inv-loop μ-loop
-slice-read-pair-step c = search needs
+shorter-requires : tie.Need-shorter-requires Inv-loop μ-loop
+shorter-requires c κs = search needs
 
-add-pair-step : tie.Need-add-pair-step Inv-loop μ-loop
-add-pair-step c = search needs
+mul-block-pairs : tie.Need-mul-block-pairs Inv-loop μ-loop
+mul-block-pairs c = search needs
 
-mul-pair-step-2 : tie.Need-mul-pair-step-2 Inv-loop μ-loop
-mul-pair-step-2 c = search needs
+sub-block-pairs : tie.Need-sub-block-pairs Inv-loop μ-loop
+sub-block-pairs c = search needs
 
-slice-read-pair-step-2 : tie.Need-slice-read-pair-step-2 Inv-loop μ-loop
-slice-read-pair-step-2 c = search needs
+part-block-pairs-start : tie.Need-part-block-pairs-start Inv-loop μ-loop
+part-block-pairs-start c = search needs
 
-pair-step-requires : tie.Need-pair-step-requires Inv-loop μ-loop
-pair-step-requires c κs = search needs
+part-block-pairs-end : tie.Need-part-block-pairs-end Inv-loop μ-loop
+part-block-pairs-end c = search needs
 
-enum-told : tie.Need-enum-told Inv-loop μ-loop
-enum-told c = search needs
-
-mul-data : tie.Need-mul-data Inv-loop μ-loop
-mul-data c = search needs
-
-slice-write-data : tie.Need-slice-write-data Inv-loop μ-loop
-slice-write-data c = search needs
-
-add-data : tie.Need-add-data Inv-loop μ-loop
-add-data c = search needs
-
-mul-data-2 : tie.Need-mul-data-2 Inv-loop μ-loop
-mul-data-2 c = search needs
-
-slice-write-data-2 : tie.Need-slice-write-data-2 Inv-loop μ-loop
-slice-write-data-2 c = simp length-set (omega arith)
+block-pairs-requires : tie.Need-block-pairs-requires Inv-loop μ-loop
+block-pairs-requires c κs =
+    let l = c .before .before .before .loop in
+    let e = c .before .shorter .result in
+    let size = length-take-le (e - l .k) (drop (l .k) (l .«data»)) (rw length-drop (omega arith)) in
+    let even : length (take (e - l .k) (drop (l .k) (l .«data»))) % 2 ≡ 0 = omega arith in
+    eq-eqb _ _ even
 
 add-struck : tie.Need-add-struck Inv-loop μ-loop
-add-struck c = search needs
-
-enum-known-out-i : tie.Need-enum-known-out-i Inv-loop μ-loop
-enum-known-out-i c = search needs
-
-mul-data-3 : tie.Need-mul-data-3 Inv-loop μ-loop
-mul-data-3 c = search needs
-
-slice-write-data-3 : tie.Need-slice-write-data-3 Inv-loop μ-loop
-slice-write-data-3 c = search needs
-
-add-data-2 : tie.Need-add-data-2 Inv-loop μ-loop
-add-data-2 c = search needs
-
-mul-data-4 : tie.Need-mul-data-4 Inv-loop μ-loop
-mul-data-4 c = search needs
-
-slice-write-data-4 : tie.Need-slice-write-data-4 Inv-loop μ-loop
-slice-write-data-4 c = simp length-set (omega arith)
-
-add-i : tie.Need-add-i Inv-loop μ-loop
-add-i c = search needs
+add-struck c =
+    let b = c .before .before .before in
+    let l = b .before .before .before .before .loop in
+    let e = b .before .before .shorter .result in
+    let size = length-take-le (e - l .k) (drop (l .k) (l .«data»)) (rw length-drop (omega arith)) in
+    let few = part-few pairStage interleaved (interleaved-row pairStage) (l .self) (take (e - l .k) (drop (l .k) (l .«data»))) (given (b .block-pairs .result) (b .block-pairs .last .1 .0)) (b .block-pairs .ensures) in
+    search needs
 
 loop-less : tie.Need-loop-less Inv-loop μ-loop
 loop-less c = search needs
 
 loop-again : tie.Need-loop-again Inv-loop μ-loop
 loop-again c =
-    let t = c .before .before .before .before in
-    let l = t .before .loop in
-    let e = c .before .pair-step .ensures in
-    ⊎-elim
-    (λ w. rw (w .2, w .3, w .4) (interleaved-turns pairAnswer (plusZero, plusZero) nan (l .inv) (t .loop-test .taken) (told (pairMeans (l .self)) e (w .1 .given .1))))
-    (λ w. rw (w .3, w .4, w .5) (interleaved-turns pairAnswer (plusZero, plusZero) nan (l .inv) (t .loop-test .taken) (told (pairMeans (l .self)) e (w .1 .given .1))))
-    (c .match .came)
+    let b = c .before .before .before .before in
+    let l = b .before .before .before .before .loop in
+    let e = b .before .before .shorter .result in
+    let size = length-take-le (e - l .k) (drop (l .k) (l .«data»)) (rw length-drop (omega arith)) in
+    let even : length (take (e - l .k) (drop (l .k) (l .«data»))) % 2 ≡ 0 = omega arith in (
+      omega arith,
+      l .inv .1,
+      part-turns pairStage interleaved (interleaved-row pairStage) e (given (b .block-pairs .result) (b .block-pairs .last .1 .0)) (l .inv .2) (omega arith) (omega arith)
+          (eq-eqb _ _ even) (b .block-pairs .ensures) (b .block-pairs .kept .1 .0 ∙ size),
+    )
 
 answer-requires-2 : tie.Need-answer-requires-2 Inv-loop μ-loop
 answer-requires-2 c κs = search needs
@@ -131,9 +108,8 @@ returns-2 c =
     let l = c .before .before in
     let n = l .before .before in
     let s = n .before .before .before .before .args in
-    let e = interleaved-ends pairAnswer (plusZero, plusZero) (l .loop .inv) (c .before .loop-test .left) in
     rw (c .answer2 .ensures)
-    (gives-run pairStage interleaved (s .self) (s .«data» .now) (n .number .result) (n .number .ensures ∙ rw (n .before .even .ensures, n .before .before .within .ensures)) _ _ _ (l .before .if1 .left) (e .0) (e .1) (e .2))
+    (gives-ran pairStage interleaved (s .self) (s .«data» .now) (n .number .result) (n .number .ensures ∙ rw (n .before .even .ensures, n .before .before .within .ensures)) _ (l .before .if1 .left) (part-ends pairStage interleaved (interleaved-row pairStage) (l .loop .inv .2) (c .before .loop-test .left)))
 
 pub process-spec : {M : Type 1} → statement M
 process-spec =
@@ -147,26 +123,14 @@ process-spec =
     answer-requires
     returns
     loop-holds
-    mul-pair-step
-    slice-read-pair-step
-    add-pair-step
-    mul-pair-step-2
-    slice-read-pair-step-2
-    pair-step-requires
-    enum-told
-    mul-data
-    slice-write-data
-    add-data
-    mul-data-2
-    slice-write-data-2
+    add-shorter
+    shorter-requires
+    mul-block-pairs
+    sub-block-pairs
+    part-block-pairs-start
+    part-block-pairs-end
+    block-pairs-requires
     add-struck
-    enum-known-out-i
-    mul-data-3
-    slice-write-data-3
-    add-data-2
-    mul-data-4
-    slice-write-data-4
-    add-i
     loop-less
     loop-again
     answer-requires-2

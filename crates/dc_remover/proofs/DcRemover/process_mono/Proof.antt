@@ -1,24 +1,23 @@
--- `dc_remover::DcRemover::process_mono` meets its contract: its loop is that of a stage over samples in place, and where the number refuses nothing is done. Assumes nothing.
-use Prim.Native.Nat.{_-_}
-use mathlib.Core.Path.{_∙_}
-use mathlib.Core.Logic.{⊎-elim}
-use lib.ListN.{length}
-use lib.Ieee.{nan}
-use Rattle.stage.specs.Floats.{plusZero}
+-- `dc_remover::DcRemover::process_mono` meets its contract: its loop goes on by a block whose run is the definition's, and where the number refuses nothing is done. Assumes nothing.
+use Prim.Native.Nat.{_-_, _≤_}
+use native.Mathlib.Omega.{arith}
+use mathlib.Core.Path.{_≡_, refl, _∙_}
+use lib.ListN.{length, take, drop, length-drop}
+use lib.Seq.{length-take-le}
 use Rattle.stage.specs.Lent.{mono}
-use Rattle.stage.proofs.LoopMono.{MonoLoop, mono-begins, mono-turns, mono-ends}
-use Rattle.stage.proofs.Gives.{told, gives-refused, gives-run}
-use Rattle.dc_remover.specs.Step.{monoMeans, monoAnswer}
-use Rattle.dc_remover.specs.Process.{monoStage}
+use Rattle.stage.specs.Call.{gave}
+use Rattle.stage.proofs.Gives.{gives-refused, gives-ran}
+use Rattle.stage.proofs.InParts.{PartLoop, mono-row, part-begins, part-few, part-turns, part-ends}
+use Rattle.dc_remover.specs.Process.{given, monoStage}
 use borrow.Author.Needs.{needs}
 use Rattle.dc_remover.proofs.DcRemover.process_mono.Statement.{statement}
 use Rattle.dc_remover.proofs.DcRemover.process_mono.Tie as tie
 
 abbrev Inv-loop : tie.InvT-loop
-Inv-loop self₀ data₀ refusal struck₀ i₀ self «data» struck i = MonoLoop monoAnswer plusZero self₀ data₀ «data» self struck i
+Inv-loop self₀ data₀ refusal struck₀ k₀ self «data» struck k = PartLoop monoStage mono self₀ data₀ «data» self struck k
 
 abbrev μ-loop : tie.MeasureT-loop
-μ-loop self₀ data₀ refusal struck₀ i₀ self «data» struck i = length data₀ - i
+μ-loop self₀ data₀ refusal struck₀ k₀ self «data» struck k = length data₀ - k
 
 within-requires : tie.Need-within-requires Inv-loop μ-loop
 within-requires c κs = search needs
@@ -37,53 +36,48 @@ returns c =
     (gives-refused monoStage mono (s .self) (s .«data» .now) (n .number .result) (n .number .ensures ∙ rw (n .before .within .ensures)) (c .before .if1 .taken))
 
 loop-holds : tie.Need-loop-holds Inv-loop μ-loop
-loop-holds c = mono-begins monoAnswer plusZero _ _
+loop-holds c = part-begins monoStage mono (mono-row monoStage) _ _
 
-mul-mono-step : tie.Need-mul-mono-step Inv-loop μ-loop
-mul-mono-step c = search needs
+add-shorter : tie.Need-add-shorter Inv-loop μ-loop
+add-shorter c = search needs
 
-slice-read-mono-step : tie.Need-slice-read-mono-step Inv-loop μ-loop
-slice-read-mono-step c = search needs
+shorter-requires : tie.Need-shorter-requires Inv-loop μ-loop
+shorter-requires c κs = search needs
 
-mono-step-requires : tie.Need-mono-step-requires Inv-loop μ-loop
-mono-step-requires c κs = search needs
+mul-block-mono : tie.Need-mul-block-mono Inv-loop μ-loop
+mul-block-mono c = search needs
 
-enum-told : tie.Need-enum-told Inv-loop μ-loop
-enum-told c = search needs
+sub-block-mono : tie.Need-sub-block-mono Inv-loop μ-loop
+sub-block-mono c = search needs
 
-mul-data : tie.Need-mul-data Inv-loop μ-loop
-mul-data c = search needs
+part-block-mono-start : tie.Need-part-block-mono-start Inv-loop μ-loop
+part-block-mono-start c = search needs
 
-slice-write-data : tie.Need-slice-write-data Inv-loop μ-loop
-slice-write-data c = search needs
+part-block-mono-end : tie.Need-part-block-mono-end Inv-loop μ-loop
+part-block-mono-end c = search needs
+
+block-mono-requires : tie.Need-block-mono-requires Inv-loop μ-loop
+block-mono-requires c κs = search needs
 
 add-struck : tie.Need-add-struck Inv-loop μ-loop
-add-struck c = search needs
-
-enum-known-out : tie.Need-enum-known-out Inv-loop μ-loop
-enum-known-out c = search needs
-
-mul-data-2 : tie.Need-mul-data-2 Inv-loop μ-loop
-mul-data-2 c = search needs
-
-slice-write-data-2 : tie.Need-slice-write-data-2 Inv-loop μ-loop
-slice-write-data-2 c = search needs
-
-add-i : tie.Need-add-i Inv-loop μ-loop
-add-i c = search needs
+add-struck c =
+    let b = c .before .before .before in
+    let l = b .before .before .before .before .loop in
+    let e = b .before .before .shorter .result in
+    let size = length-take-le (e - l .k) (drop (l .k) (l .«data»)) (rw length-drop (omega arith)) in
+    let few = part-few monoStage mono (mono-row monoStage) (l .self) (take (e - l .k) (drop (l .k) (l .«data»))) (given (b .block-mono .result) (b .block-mono .last .1 .0)) (b .block-mono .ensures) in
+    search needs
 
 loop-less : tie.Need-loop-less Inv-loop μ-loop
 loop-less c = search needs
 
 loop-again : tie.Need-loop-again Inv-loop μ-loop
 loop-again c =
-    let t = c .before .before .before in
-    let l = t .before .loop in
-    let e = c .before .mono-step .ensures in
-    ⊎-elim
-    (λ w. rw (w .2, w .3, w .4) (mono-turns monoAnswer plusZero nan (l .inv) (t .loop-test .taken) (told (monoMeans (l .self)) e (w .1 .given .1))))
-    (λ w. rw (w .3, w .4, w .5) (mono-turns monoAnswer plusZero nan (l .inv) (t .loop-test .taken) (told (monoMeans (l .self)) e (w .1 .given .1))))
-    (c .match .came)
+    let b = c .before .before .before .before in
+    let l = b .before .before .before .before .loop in
+    let e = b .before .before .shorter .result in
+    let size = length-take-le (e - l .k) (drop (l .k) (l .«data»)) (rw length-drop (omega arith)) in
+    part-turns monoStage mono (mono-row monoStage) e (given (b .block-mono .result) (b .block-mono .last .1 .0)) (l .inv) (omega arith) (omega arith) refl (b .block-mono .ensures) (b .block-mono .kept .1 .0 ∙ size)
 
 answer-requires-2 : tie.Need-answer-requires-2 Inv-loop μ-loop
 answer-requires-2 c κs = search needs
@@ -96,9 +90,8 @@ returns-2 c =
     let l = c .before .before in
     let n = l .before .before in
     let s = n .before .before .before .args in
-    let e = mono-ends monoAnswer plusZero (l .loop .inv) (c .before .loop-test .left) in
     rw (c .answer2 .ensures)
-    (gives-run monoStage mono (s .self) (s .«data» .now) (n .number .result) (n .number .ensures ∙ rw (n .before .within .ensures)) _ _ _ (l .before .if1 .left) (e .0) (e .1) (e .2))
+    (gives-ran monoStage mono (s .self) (s .«data» .now) (n .number .result) (n .number .ensures ∙ rw (n .before .within .ensures)) _ (l .before .if1 .left) (part-ends monoStage mono (mono-row monoStage) (l .loop .inv) (c .before .loop-test .left)))
 
 pub process-mono-spec : {M : Type 1} → statement M
 process-mono-spec =
@@ -111,17 +104,14 @@ process-mono-spec =
     answer-requires
     returns
     loop-holds
-    mul-mono-step
-    slice-read-mono-step
-    mono-step-requires
-    enum-told
-    mul-data
-    slice-write-data
+    add-shorter
+    shorter-requires
+    mul-block-mono
+    sub-block-mono
+    part-block-mono-start
+    part-block-mono-end
+    block-mono-requires
     add-struck
-    enum-known-out
-    mul-data-2
-    slice-write-data-2
-    add-i
     loop-less
     loop-again
     answer-requires-2

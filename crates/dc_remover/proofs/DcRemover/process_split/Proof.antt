@@ -1,20 +1,17 @@
--- `dc_remover::DcRemover::process_split` meets its contract: its loop is that of a stage over two slices in place, and where the number refuses nothing is done. Assumes nothing.
-use Prim.Native.Nat.{_-_}
-use mathlib.Core.Path.{_∙_}
-use mathlib.Core.Logic.{⊎-elim}
-use lib.Ieee.{nan}
-use Rattle.stage.specs.Floats.{plusZero}
+-- `dc_remover::DcRemover::process_split` meets its contract: its loop goes on by a block whose run is the definition's, and where the number refuses nothing is done. Assumes nothing.
+use Prim.Native.Nat.{_-_, _≤_}
+use native.Mathlib.Omega.{arith}
+use mathlib.Core.Path.{_≡_, sym, _∙_}
 use Rattle.stage.specs.Lent.{split}
-use Rattle.stage.proofs.LoopSplit.{SplitLoop, split-begins, split-turns, split-ends}
-use Rattle.stage.proofs.Gives.{told, gives-refused, gives-run}
-use Rattle.dc_remover.specs.Step.{pairMeans, pairAnswer}
-use Rattle.dc_remover.specs.Process.{pairStage}
+use Rattle.stage.proofs.Gives.{gives-refused, gives-ran}
+use Rattle.stage.proofs.SplitParts.{SplitParts, split-parts-begin, part-left, part-right, split-part-few, split-parts-turn, split-parts-end}
+use Rattle.dc_remover.specs.Process.{given, pairStage}
 use borrow.Author.Needs.{needs}
 use Rattle.dc_remover.proofs.DcRemover.process_split.Statement.{statement}
 use Rattle.dc_remover.proofs.DcRemover.process_split.Tie as tie
 
 abbrev Inv-loop : tie.InvT-loop
-Inv-loop self₀ i₀ q₀ refusal struck₀ n k₀ self i q struck k = SplitLoop pairAnswer (plusZero, plusZero) self₀ i₀ q₀ n i q self struck k
+Inv-loop self₀ i₀ q₀ refusal struck₀ n k₀ self i q struck k = SplitParts pairStage self₀ i₀ q₀ n i q self struck k
 
 abbrev μ-loop : tie.MeasureT-loop
 μ-loop self₀ i₀ q₀ refusal struck₀ n k₀ self i q struck k = n - k
@@ -42,71 +39,61 @@ shorter-requires : tie.Need-shorter-requires Inv-loop μ-loop
 shorter-requires c κs = search needs
 
 loop-holds : tie.Need-loop-holds Inv-loop μ-loop
-loop-holds c = split-begins pairAnswer (plusZero, plusZero) _ _ _ _ (c .shorter .ensures)
+loop-holds c = split-parts-begin pairStage _ _ _ _ (c .shorter .ensures)
 
-mul-pair-step : tie.Need-mul-pair-step Inv-loop μ-loop
-mul-pair-step c = search needs
+add-shorter : tie.Need-add-shorter Inv-loop μ-loop
+add-shorter c = search needs
 
-slice-read-pair-step : tie.Need-slice-read-pair-step Inv-loop μ-loop
-slice-read-pair-step c = search needs
+shorter-requires-2 : tie.Need-shorter-requires-2 Inv-loop μ-loop
+shorter-requires-2 c κs = search needs
 
-mul-pair-step-2 : tie.Need-mul-pair-step-2 Inv-loop μ-loop
-mul-pair-step-2 c = search needs
+mul-block-split : tie.Need-mul-block-split Inv-loop μ-loop
+mul-block-split c = search needs
 
-slice-read-pair-step-2 : tie.Need-slice-read-pair-step-2 Inv-loop μ-loop
-slice-read-pair-step-2 c = search needs
+sub-block-split : tie.Need-sub-block-split Inv-loop μ-loop
+sub-block-split c = search needs
 
-pair-step-requires : tie.Need-pair-step-requires Inv-loop μ-loop
-pair-step-requires c κs = search needs
+part-block-split-start : tie.Need-part-block-split-start Inv-loop μ-loop
+part-block-split-start c = search needs
 
-enum-told : tie.Need-enum-told Inv-loop μ-loop
-enum-told c = search needs
+part-block-split-end : tie.Need-part-block-split-end Inv-loop μ-loop
+part-block-split-end c = search needs
 
-mul-i : tie.Need-mul-i Inv-loop μ-loop
-mul-i c = search needs
+mul-block-split-2 : tie.Need-mul-block-split-2 Inv-loop μ-loop
+mul-block-split-2 c = search needs
 
-slice-write-i : tie.Need-slice-write-i Inv-loop μ-loop
-slice-write-i c = search needs
+sub-block-split-2 : tie.Need-sub-block-split-2 Inv-loop μ-loop
+sub-block-split-2 c = search needs
 
-mul-q : tie.Need-mul-q Inv-loop μ-loop
-mul-q c = search needs
+part-block-split-start-2 : tie.Need-part-block-split-start-2 Inv-loop μ-loop
+part-block-split-start-2 c = search needs
 
-slice-write-q : tie.Need-slice-write-q Inv-loop μ-loop
-slice-write-q c = search needs
+part-block-split-end-2 : tie.Need-part-block-split-end-2 Inv-loop μ-loop
+part-block-split-end-2 c = search needs
+
+block-split-requires : tie.Need-block-split-requires Inv-loop μ-loop
+block-split-requires c κs = search needs
 
 add-struck : tie.Need-add-struck Inv-loop μ-loop
-add-struck c = search needs
-
-enum-known-out-i : tie.Need-enum-known-out-i Inv-loop μ-loop
-enum-known-out-i c = search needs
-
-mul-i-2 : tie.Need-mul-i-2 Inv-loop μ-loop
-mul-i-2 c = search needs
-
-slice-write-i-2 : tie.Need-slice-write-i-2 Inv-loop μ-loop
-slice-write-i-2 c = search needs
-
-mul-q-2 : tie.Need-mul-q-2 Inv-loop μ-loop
-mul-q-2 c = search needs
-
-slice-write-q-2 : tie.Need-slice-write-q-2 Inv-loop μ-loop
-slice-write-q-2 c = search needs
-
-add-k : tie.Need-add-k Inv-loop μ-loop
-add-k c = search needs
+add-struck c =
+    let b = c .before .before .before .before .before in
+    let l = b .before .before .before .before .before .loop in
+    let e = b .before .before .before .shorter2 .result in
+    let few = split-part-few pairStage (l .inv) e (omega arith) (omega arith) (given (b .block-split .result) (b .block-split .last .1 .0, b .block-split .last .1 .1 .0)) (b .block-split .ensures) in
+    search needs
 
 loop-less : tie.Need-loop-less Inv-loop μ-loop
 loop-less c = search needs
 
 loop-again : tie.Need-loop-again Inv-loop μ-loop
 loop-again c =
-    let t = c .before .before .before .before in
-    let l = t .before .loop in
-    let e = c .before .pair-step .ensures in
-    ⊎-elim
-    (λ w. rw (w .2, w .3, w .4, w .5) (split-turns pairAnswer (plusZero, plusZero) nan (l .inv) (t .loop-test .taken) (told (pairMeans (l .self)) e (w .1 .given .1))))
-    (λ w. rw (w .3, w .4, w .5, w .6) (split-turns pairAnswer (plusZero, plusZero) nan (l .inv) (t .loop-test .taken) (told (pairMeans (l .self)) e (w .1 .given .1))))
-    (c .match .came)
+    let b = c .before .before .before .before .before .before in
+    let l = b .before .before .before .before .before .loop in
+    let e = b .before .before .before .shorter2 .result in
+    let up : l .k ≤ e = omega arith in
+    let to : e ≤ b .before .before .before .before .before .before .shorter .result = omega arith in
+    split-parts-turn pairStage (l .inv) e up to (given (b .block-split .result) (b .block-split .last .1 .0, b .block-split .last .1 .1 .0)) (b .block-split .ensures)
+    (b .block-split .kept .1 .0 ∙ part-left pairStage (l .inv) e up to) (b .block-split .kept .1 .1 .0 ∙ part-right pairStage (l .inv) e up to)
 
 answer-requires-2 : tie.Need-answer-requires-2 Inv-loop μ-loop
 answer-requires-2 c κs = search needs
@@ -122,9 +109,8 @@ returns-2 c =
     let l = c .before .before in
     let n = l .before .before .before in
     let s = n .before .before .before .before .before .args in
-    let e = split-ends pairAnswer (plusZero, plusZero) (l .loop .inv) (c .before .loop-test .left) in
     rw (c .answer2 .ensures)
-    (gives-run pairStage split (s .self) (s .i .now, s .q .now) (n .number .result) (n .number .ensures ∙ rw (n .before .within2 .ensures, n .before .before .within .ensures)) _ _ _ (l .before .before .if1 .left) (rw (e .0, e .1)) (e .2) (e .3))
+    (gives-ran pairStage split (s .self) (s .i .now, s .q .now) (n .number .result) (n .number .ensures ∙ rw (n .before .within2 .ensures, n .before .before .within .ensures)) _ (l .before .before .if1 .left) (split-parts-end pairStage (l .loop .inv) (c .before .loop-test .left)))
 
 pub process-split-spec : {M : Type 1} → statement M
 process-split-spec =
@@ -139,23 +125,18 @@ process-split-spec =
     returns
     shorter-requires
     loop-holds
-    mul-pair-step
-    slice-read-pair-step
-    mul-pair-step-2
-    slice-read-pair-step-2
-    pair-step-requires
-    enum-told
-    mul-i
-    slice-write-i
-    mul-q
-    slice-write-q
+    add-shorter
+    shorter-requires-2
+    mul-block-split
+    sub-block-split
+    part-block-split-start
+    part-block-split-end
+    mul-block-split-2
+    sub-block-split-2
+    part-block-split-start-2
+    part-block-split-end-2
+    block-split-requires
     add-struck
-    enum-known-out-i
-    mul-i-2
-    slice-write-i-2
-    mul-q-2
-    slice-write-q-2
-    add-k
     loop-less
     loop-again
     answer-requires-2
