@@ -5,14 +5,11 @@
 // the phase at its end, also of an empty call; so cutting a stream changes its bits. NaN and infinities
 // pass. `specs/Mix.antt` has the definitions, `specs/Rules.antt` the rules on settings and state,
 // `specs/Call.antt` what each call gives. No public function here has a `requires`.
+mod blocks;
 mod rules;
 mod tune;
 
 ghost use mathlib.Core.Path.{_≡_};
-ghost use mathlib.Core.Bool.{true};
-ghost use lib.ListN.{length};
-ghost use Rattle.stage.specs.Length.{isEven};
-ghost use Rattle.nco.specs.Mix.{mixedOuts, phaseAfter};
 ghost use Rattle.nco.specs.Call.{made, retuned, mixed, cleared};
 
 #[repr(C)]
@@ -97,29 +94,5 @@ impl Nco {
             refusal,
             state: self,
         }
-    }
-
-    // The mixing itself; answers the phase after the last pair, before the turn is taken off.
-    fn run(self, iq: &mut [f32]) -> f64
-        requires { ⌜ isEven (length (now iq)) ≡ true ⌝ }
-        ensures { λ r. ⌜ r ≡ phaseAfter self (now (iq .entry)) ⌝ }
-        ensures { λ r. ⌜ now (iq .exit) ≡ mixedOuts self (now (iq .entry)) ⌝ }
-    {
-        let mut c = angle::turn::cosine(self.phase);
-        let mut s = angle::turn::sine(self.phase);
-        let mut phase = self.phase;
-        let mut k = 0;
-        while k < iq.len() {
-            let i = number::widen::widen(iq[k]);
-            let q = number::widen::widen(iq[k + 1]);
-            iq[k] = number::alone::narrow(i * c + q * s);
-            iq[k + 1] = number::alone::narrow(-i * s + q * c);
-            let next = c * self.rotator_i - s * self.rotator_q;
-            s = c * self.rotator_q + s * self.rotator_i;
-            c = next;
-            phase = phase + self.phase_inc;
-            k += 2;
-        }
-        phase
     }
 }

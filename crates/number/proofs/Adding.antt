@@ -4,7 +4,7 @@
 use mathlib.Core.Path.{_≡_, refl, sym, ap, ap₂, _∙_, subst}
 use mathlib.Core.Logic.{inr}
 use Prim.Native.Nat.{ℕ, _+_, _-_, _*_, _/_, _%_, _^_, _≤_, _<_, compare, Ordering, Ordering·lt, Ordering·eq, Ordering·gt}
-use native.Mathlib.Nat.{le-trans, le-of-eq, lt-of-lt-of-le, lt-of-le-of-lt, not-le-of-lt, add-comm, add-mul, mul-pos, mul-assoc, mul-comm, mul-right-comm, mul-le-mul-right, le-of-mul-le-mul-right, div-lt-iff-lt-mul, add-mul-div-right, mul-add-mod-self-right}
+use native.Mathlib.Nat.{le-trans, le-of-eq, lt-of-lt-of-le, lt-of-le-of-lt, not-le-of-lt, add-comm, add-mul, mul-pos, mul-assoc, mul-comm, mul-right-comm, mul-le-mul-left, mul-le-mul-right, le-of-mul-le-mul-right, div-lt-iff-lt-mul, add-mul-div-right, mul-add-mod-self-right}
 use native.Mathlib.Omega.{arith}
 use mathlib.Core.Bool.{Bool, true, false, not, cond}
 use lib.Dec.{T, ltb, ltb→lt, lit≤, lit<}
@@ -24,10 +24,10 @@ plus-same : (A B C a b c : ℕ) → A * c ≡ a * C → B * c ≡ b * C → (A +
 plus-same A B C a b c p q = add-mul A B c ∙ ap₂ (λ (x y : ℕ). x + y) p q ∙ sym (add-mul a b C)
 
 -- p / e with the denominator e * d
-over-both : (p a c e d : ℕ) → p * c ≡ a * e → p * d * c ≡ a * (e * d)
+pub over-both : (p a c e d : ℕ) → p * c ≡ a * e → p * d * c ≡ a * (e * d)
 over-both p a c e d h = mul-right-comm p d c ∙ ap (λ (x : ℕ). x * d) h ∙ mul-assoc a e d
 
-over-both' : (p a c e d : ℕ) → p * c ≡ a * d → p * e * c ≡ a * (e * d)
+pub over-both' : (p a c e d : ℕ) → p * c ≡ a * d → p * e * c ≡ a * (e * d)
 over-both' p a c e d h = over-both p a c d e h ∙ ap (λ (x : ℕ). a * x) (mul-comm d e)
 
 pub add-at : (f : Format) (x y : Float) (a b c : ℕ) → HasValue x false a c → HasValue y false b c → 0 < c → add f x y ≡ round f false (a + b) c
@@ -50,7 +50,7 @@ minus-pick f a b c h = go (ltb a b) (ltb→lt a b)
     go true k = absurd (not-le-of-lt (k tt) h)
     go false k = refl
 
-minus-same : (A B C a b c : ℕ) → A * c ≡ a * C → B * c ≡ b * C → B ≤ A → b ≤ a → (A - B) * c ≡ (a - b) * C
+pub minus-same : (A B C a b c : ℕ) → A * c ≡ a * C → B * c ≡ b * C → B ≤ A → b ≤ a → (A - B) * c ≡ (a - b) * C
 minus-same A B C a b c p q h l = both ((A - B) * c) (B * c) (A * c) ((a - b) * C) (b * C) (a * C) (back A B c h) (back a b C l) q p
   where
     back : (v u c : ℕ) → u ≤ v → (v - u) * c + u * c ≡ v * c
@@ -62,7 +62,7 @@ minus-same A B C a b c p q h l = both ((A - B) * c) (B * c) (A * c) ((a - b) * C
     both : (x u v y a b : ℕ) → x + u ≡ v → y + a ≡ b → u ≡ a → v ≡ b → x ≡ y
     both x u v y a b h k p q = omega arith
 
-order : (u v a b c k : ℕ) → 0 < c → u * c ≡ a * k → v * c ≡ b * k → a ≤ b → u ≤ v
+pub order : (u v a b c k : ℕ) → 0 < c → u * c ≡ a * k → v * c ≡ b * k → a ≤ b → u ≤ v
 order u v a b c k C p q h = le-of-mul-le-mul-right (subst (λ (x : ℕ). x ≤ v * c) (sym p) (subst (λ (x : ℕ). a * k ≤ x) (sym q) (mul-le-mul-right k h))) C
 
 pub sub-at : (f : Format) (x y : Float) (a b c : ℕ) → HasValue x false a c → HasValue y false b c → 0 < c → b ≤ a → sub f x y ≡ round f false (a - b) c
@@ -108,6 +108,10 @@ closest-more D w B P =
 pub kept-le : (D h : ℕ) → D < 2 ^ (24 + h) → closest D (2 ^ h) ≤ 16777216
 kept-le D h l = le-trans (nearest-le (D / 2 ^ h) (compare (D % 2 ^ h * 2) (2 ^ h))) (div-lt-iff-lt-mul (pow-pos h) .1 (lt-of-lt-of-le l (le-of-eq (pow-add 2 24 h))))
 
+-- 53 digits at a place that is low enough are below the overflow
+pub below-top : (q j : ℕ) → q ≤ 9007199254740992 → j ≤ 2000 → q * 2 ^ j < 2 ^ 2098
+below-top q j l room = lt-of-le-of-lt (mul-le-mul-right (2 ^ j) l) (lt-of-le-of-lt (mul-le-mul-left 9007199254740992 (pow-mono room)) (lit< tt))
+
 module _ (y c : Float) (D x h : ℕ) (Y : HasValue y false (D * 2 ^ x) (2 ^ 1074)) (C : HasValue c false (4503599627370496 * 2 ^ (x + h)) (2 ^ 1074)) (small : D < 2 ^ (24 + h)) (room : x + h ≤ 2000) where
   abbrev Q : ℕ
   Q = closest D (2 ^ h)
@@ -141,10 +145,7 @@ module _ (y c : Float) (D x h : ℕ) (Y : HasValue y false (D * 2 ^ x) (2 ^ 1074
       turn x h = omega arith
 
   under : (q : ℕ) → q ≤ 9007199254740992 → q * 2 ^ (x + h) < 2 ^ 2098
-  under q l = lt-of-le-of-lt (mul-le-mul-right (2 ^ (x + h)) l) (lt-of-le-of-lt (mul-le-mul-left' 9007199254740992 (pow-mono room)) (lit< tt))
-    where
-      mul-le-mul-left' : (a : ℕ) {b d : ℕ} → b ≤ d → a * b ≤ a * d
-      mul-le-mul-left' a {b} {d} l = le-trans (le-of-eq (mul-comm a b)) (le-trans (mul-le-mul-right a l) (le-of-eq (mul-comm d a)))
+  under q l = below-top q (x + h) l room
 
   Q-le : Q ≤ 16777216
   Q-le = kept-le D h small

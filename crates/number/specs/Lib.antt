@@ -1,4 +1,5 @@
--- Definitions that public contracts cite: Kinds, Narrow. Cases has worked values of them.
+-- Definitions that public contracts cite: Kinds, Narrow, Eight. Cases has worked values of them.
 pub mod Kinds
 pub mod Narrow
+pub mod Eight
 pub mod Cases

@@ -34,6 +34,12 @@ narrow h x y = one-answer (λ r. (r, (tt, tt)))
 pub narrow-alone : NoSecond number.alone.narrow.ended number.alone.narrow.Reads.Learnt
 narrow-alone h x y = one-answer (λ r. (r, (tt, tt)))
 
+pub narrow-eight : NoSecond number.eight.narrow.ended number.eight.narrow.Reads.Learnt
+narrow-eight h x y = one-answer (λ r. (r, (tt, (tt, (tt, (tt, (tt, (tt, (tt, (tt, tt))))))))))
+
+pub none-eight : NoSecond number.eight.none.ended number.eight.none.Reads.Learnt
+none-eight h x y = one-answer (λ r. (r, tt))
+
 pub whole : NoSecond number.whole.whole.ended number.whole.whole.Reads.Learnt
 whole h x y = one-answer (λ r. (r, (tt, tt)))
 

@@ -15,24 +15,28 @@ use Rattle.stage.proofs.Layouts.{pairs-append, pairs-drop, flat-pairs}
 use Rattle.stage.proofs.Going.{Going, tally, tally-le, going-begins, going-by-one, going-ends}
 
 module _ {X : Type 0} where
-  -- a pair written at i, the places before it being whole pairs
-  pub pairs-set : (xs : List X) (i : ℕ) (o : X × X) → i % 2 ≡ 0 → i + 1 < length xs
-      → pairs (take (i + 2) (set (set xs i (o .0)) (i + 1) (o .1))) ≡ pairs (take i xs) ++ (o ∷ [])
-  pairs-set xs i o even h =
+  -- a pair written at i, behind what stands before it
+  pub take-pair : (xs : List X) (i : ℕ) (o : X × X) → i + 1 < length xs → take (i + 2) (set (set xs i (o .0)) (i + 1) (o .1)) ≡ take i xs ++ (o .0 ∷ o .1 ∷ [])
+  take-pair xs i o h =
       let e₁ : i + 1 ≡ suc i = add-one i in
       let e₂ : i + 2 ≡ suc (suc i) = omega arith in
       let h₀ : i < length xs = omega arith in
       let h₁ : suc i < length xs = omega arith in
+      rw (e₁, e₂)
+      (take-suc-set (set xs i (o .0)) (suc i) (o .1) (lt-length-set xs i (o .0) h₁)
+      ∙ ap {B = List X} (λ r. r ++ (o .1 ∷ [])) (take-suc-set xs i (o .0) h₀)
+      ∙ append-assoc (take i xs) (o .0 ∷ []) (o .1 ∷ []))
+
+  -- where the places before it are whole pairs
+  pub pairs-set : (xs : List X) (i : ℕ) (o : X × X) → i % 2 ≡ 0 → i + 1 < length xs
+      → pairs (take (i + 2) (set (set xs i (o .0)) (i + 1) (o .1))) ≡ pairs (take i xs) ++ (o ∷ [])
+  pairs-set xs i o even h =
       let full : length (take i xs) ≡ i = length-take-le i xs (omega arith) in
       let whole : isEven (length (take i xs)) ≡ true = rw full (eq-eqb _ _ even) in
-      let taken : take (suc (suc i)) (set (set xs i (o .0)) (suc i) (o .1)) ≡ take i xs ++ (o .0 ∷ o .1 ∷ []) =
-      take-suc-set (set xs i (o .0)) (suc i) (o .1) (lt-length-set xs i (o .0) h₁)
-      ∙ ap {B = List X} (λ r. r ++ (o .1 ∷ [])) (take-suc-set xs i (o .0) h₀)
-      ∙ append-assoc (take i xs) (o .0 ∷ []) (o .1 ∷ []) in
-      rw (e₁, e₂, taken) (pairs-append (take i xs) (o .0 ∷ o .1 ∷ []) whole)
+      rw (take-pair xs i o h) (pairs-append (take i xs) (o .0 ∷ o .1 ∷ []) whole)
 
   -- and the places after it, as they were
-  drop-pair : (xs : List X) (i : ℕ) (o : X × X) → drop (i + 2) (set (set xs i (o .0)) (i + 1) (o .1)) ≡ drop (i + 2) xs
+  pub drop-pair : (xs : List X) (i : ℕ) (o : X × X) → drop (i + 2) (set (set xs i (o .0)) (i + 1) (o .1)) ≡ drop (i + 2) xs
   drop-pair xs i o = drop-set-lt (i + 2) (set xs i (o .0)) (i + 1) (o .1) (omega arith) ∙ drop-set-lt (i + 2) xs i (o .0) (omega arith)
 
 module _ {X S : Type 0} (step : S → X × X → Answer (X × X) S) (silence : X × X) where

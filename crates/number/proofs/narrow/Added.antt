@@ -153,7 +153,7 @@ module _ (g d : ℕ) (c : Float) (G : g < 2048) (D : d < 4503599627370496) (m : 
       go (inl u) (inr z) = rounds-none (zero-of g z)
 
 -- ---- what the machine is asked
-not-nan : (v : Float) (s : Bool) (a c : ℕ) → HasValue v s a c → T (not (isNan v))
+pub not-nan : (v : Float) (s : Bool) (a c : ℕ) → HasValue v s a c → T (not (isNan v))
 unfolding isNan
 not-nan nan s a c h = absurd h
 not-nan (inf t) s a c h = absurd h

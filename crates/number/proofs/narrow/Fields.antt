@@ -64,7 +64,7 @@ exp-normal : (g : ℕ) → 897 ≤ g → g - 1 + 178 ≡ g - 897 + 1074
 exp-normal g h = omega arith
 
 -- what `round` keeps, where the result is normal or overflows
-rounds-normal : (s : Bool) (g t : ℕ) → t < 4503599627370496 → 897 ≤ g → g < 2047 → narrowed (ofFields binary64 s g t) ≡ units binary32 s (closest (t + 4503599627370496) (2 ^ 29)) (g - 897)
+pub rounds-normal : (s : Bool) (g t : ℕ) → t < 4503599627370496 → 897 ≤ g → g < 2047 → narrowed (ofFields binary64 s g t) ≡ units binary32 s (closest (t + 4503599627370496) (2 ^ 29)) (g - 897)
 rounds-normal s g t H l u =
     narrowed-fields s g t (lt-of-lt-of-le (lit< tt) l) u
     ∙ round-dyadic binary32 s (t + 4503599627370496) (g - 1) 1074 (g - 897) 29 (exp-normal g l) (digits-lt t H) (inr (digits-ge t))
