@@ -1,8 +1,8 @@
 #!/usr/bin/env bash
 # The gate. Layout and docs/PROMISES.md, then everything proved from nothing with the must-fail edits and the programs (the
-# stored answers of the original among them, and whether their replay can fail), then the
-# faces (header, examples, crate, demo), the README's example, then the comparison with Rust and planted errors that it
-# must find. Where rustc or the original's source are not at hand, a line says so.
+# stored answers of the original among them, and whether their replay can fail), then the faces (header, examples, crate,
+# demo), the README's example, then the comparison with Rust and planted errors that it must find. Where rustc or the
+# original's source are not at hand, a line says so.
 # The last line is that of `rt ci`: N passed, 0 failed.
 set -euo pipefail
 cd "$(dirname "$0")/.."
