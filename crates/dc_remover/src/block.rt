@@ -44,15 +44,15 @@ impl DcRemover {
         after.answer(stage::NONE, 0)
     }
 
-    // As many I as Q, 64 at a time: tried as pairs, whose outputs are taken apart.
+    // As many I as Q, 16 at a time: tried as pairs, whose outputs are taken apart.
     pub(crate) fn block_split(self, i: &mut [f32], q: &mut [f32]) -> DcRemoverDone
         requires { ⌜ length (now i) ≡ length (now q) ⌝ }
         ensures { λ r. ⌜ given r (now (i .exit), now (q .exit)) ≡ ran pairStage split self (now (i .entry), now (q .entry)) ⌝ }
     {
-        if i.len() != 64 {
+        if i.len() != 16 {
             return self.plain_split(i, q);
         }
-        let mut z: [f32; 128] = [0.0; 128];
+        let mut z: [f32; 32] = [0.0; 32];
         let after = self.try_split(&i[..], &q[..], &mut z[..]);
         if !stage::all_finite(&z[..]) {
             return self.plain_split(i, q);

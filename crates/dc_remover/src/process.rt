@@ -62,7 +62,7 @@ impl DcRemover {
         let n = shorter(i.len(), q.len());
         let mut k: usize = 0;
         while k < n {
-            let e = shorter(n, k + 64);
+            let e = shorter(n, k + 16);
             let done = self.block_split(&mut i[k..e], &mut q[k..e]);
             struck += done.struck;
             self = done.state;
