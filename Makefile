@@ -1,6 +1,6 @@
 # Threshlantern: what can be done from here. `make help` prints the lines below that have two hashes.
 .DEFAULT_GOAL := help
-.PHONY: help listen test lib demo faces compare compare-long plants vectors bench fmt clean
+.PHONY: help listen test refused lib demo faces compare compare-long plants vectors bench fmt clean
 
 # How long `make compare-long` runs.
 SECONDS ?= 600
@@ -13,8 +13,13 @@ listen: demo ## hear it: demodulate the capture that is shipped, into build/alar
 	@tests/need.sh python3
 	@tests/listen.sh
 
-test: ## prove everything, try the must-fail edits, run the programs; the last line is 'N passed, 0 failed'
+test: ## prove everything, try the edits that must be refused, run the programs; the last line is 'N passed, 0 failed'
 	@tests/gate.sh
+
+refused: ## try the edits of crates/NAME/refused alone, over what is proved (ARGS='fir nco' for some crates)
+	@tests/need.sh rt python3
+	@rt check
+	@tests/refused.py $(ARGS)
 
 lib: ## build/libthreshlantern.a and build/threshlantern.h, the library for C and Rust
 	@tests/lib.sh
