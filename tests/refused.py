@@ -41,23 +41,39 @@ def kept_name():
     return names[0]
 
 
-def room_of(crate, label, kept):
-    """A repository of its own: a copy of the crate with its checked modules, and the others as they are."""
-    room = '%s/%s/%s' % (ROOMS, crate, label)
-    shutil.rmtree(room, ignore_errors=True)
-    os.makedirs(room + '/crates')
-    os.makedirs(room + '/target/inc/' + crate)
-    shutil.copy('crates.txt', room)
-    for other in os.listdir('crates'):
-        if other != crate:
-            os.symlink(os.path.abspath('crates/' + other), room + '/crates/' + other)
-    for part in ('src', 'specs', 'proofs'):
-        if os.path.isdir('crates/%s/%s' % (crate, part)):
-            shutil.copytree('crates/%s/%s' % (crate, part), '%s/crates/%s/%s' % (room, crate, part))
-    shutil.copytree('target/stamp', room + '/target/stamp')
-    os.symlink(os.path.abspath('target/rlib'), room + '/target/rlib')
-    shutil.copytree('target/rlib/%s.rlib/toolchain/checked' % crate, '%s/target/inc/%s/%s' % (room, crate, kept))
-    return room
+class Room:
+    """A repository of its own: a copy of one crate with its checked modules, and the others as they are."""
+
+    def __init__(self, crate, kept):
+        self.crate = crate
+        self.root = '%s/%s' % (ROOMS, crate)
+        self.folder = '%s/crates/%s' % (self.root, crate)
+        self.checked = 'target/rlib/%s.rlib/toolchain/checked' % crate
+        self.kept = '%s/target/inc/%s/%s' % (self.root, crate, kept)
+        shutil.rmtree(self.root, ignore_errors=True)
+        os.makedirs(self.root + '/crates')
+        shutil.copy('crates.txt', self.root)
+        for other in os.listdir('crates'):
+            if other != crate:
+                os.symlink(os.path.abspath('crates/' + other), self.root + '/crates/' + other)
+        shutil.copytree('target/stamp', self.root + '/target/stamp')
+        os.symlink(os.path.abspath('target/rlib'), self.root + '/target/rlib')
+        shutil.copytree(self.checked, self.kept)
+
+    def restore(self):
+        """Sources and checked modules as they are in the repository."""
+        shutil.rmtree(self.folder, ignore_errors=True)
+        for part in ('src', 'specs', 'proofs'):
+            if os.path.isdir('crates/%s/%s' % (self.crate, part)):
+                shutil.copytree('crates/%s/%s' % (self.crate, part), '%s/%s' % (self.folder, part))
+        modules = {entry.name: entry.stat().st_mtime_ns for entry in os.scandir(self.checked)}
+        for entry in list(os.scandir(self.kept)):
+            if entry.name not in modules:
+                shutil.rmtree(entry.path) if entry.is_dir() else os.remove(entry.path)
+            elif modules.pop(entry.name) != entry.stat().st_mtime_ns:
+                shutil.copy2('%s/%s' % (self.checked, entry.name), entry.path)
+        for name in modules:
+            shutil.copy2('%s/%s' % (self.checked, name), self.kept)
 
 
 def make_edit(folder, path):
@@ -103,30 +119,36 @@ def of_another_shape(printed):
     return False
 
 
-def verdict(crate, label, kept, edits='crates/%s/refused'):
+def verdict(room, label, edits):
     """Tries one edit, or with no label the crate itself: whether it is as it must be, and a line."""
     began = time.time()
-    room = room_of(crate, label or 'as-it-is', kept)
-    try:
-        folder = '%s/crates/%s' % (room, crate)
-        wrong = make_edit(folder, '%s/%s.edit' % (edits.replace('%s', crate), label)) if label else None
-        if wrong:
-            return False, '%s/%s: BAD EDIT: %s' % (crate, label, wrong)
-        _, printed = output_of(['rt', 'dev', crate], room)
-    finally:
-        shutil.rmtree(room + '/target')
-    with open(room + '/log', 'w') as out:
+    room.restore()
+    name = '%s/%s' % (room.crate, label)
+    wrong = make_edit(room.folder, '%s/%s.edit' % (edits, label)) if label else None
+    if wrong:
+        return False, '%s: BAD EDIT: %s' % (name, wrong)
+    _, printed = output_of(['rt', 'dev', room.crate], room.root)
+    log = '%s/%s.log' % (room.root, label or 'as-it-is')
+    with open(log, 'w') as out:
         out.write(printed)
     took = '%.0f s' % (time.time() - began)
     proved, refused = '\nlogic=proved' in printed, '\nlogic=not-proved' in printed
     if not label:
-        return proved, '%s as it is: %s (%s)' % (crate, 'proved' if proved else 'NOT PROVED: see %s/log' % room, took)
-    where, says = first_error(printed, folder)
+        return proved, '%s as it is: %s (%s)' % (room.crate, 'proved' if proved else 'NOT PROVED: see ' + log, took)
+    where, says = first_error(printed, room.folder)
     if proved or not refused:
-        return False, '%s/%s: NOT REFUSED: see %s/log (%s)' % (crate, label, room, took)
+        return False, '%s: NOT REFUSED: see %s (%s)' % (name, log, took)
     if of_another_shape(printed):
-        return False, '%s/%s: BAD EDIT: the proof no longer fits, which shows nothing: %s' % (crate, label, says)
-    return True, '%s/%s: refused, as it must be (%s%s)' % (crate, label, where and 'first at %s; ' % where, took)
+        return False, '%s: BAD EDIT: the proof no longer fits, which shows nothing: see %s' % (name, log)
+    return True, '%s: refused, as it must be (%s%s)' % (name, where and 'first at %s; ' % where, took)
+
+
+def verdicts(crate, labels, kept, edits):
+    """Those of the crate itself and of each edit, one after the other."""
+    room = Room(crate, kept)
+    told = [verdict(room, label, edits) for label in [None] + labels]
+    shutil.rmtree(room.root + '/target')
+    return told
 
 
 # ---- that it can fail: edits of the crate halves that show nothing, and a word of what must be told of each
@@ -142,16 +164,16 @@ PLANTS = [
 
 
 def plants():
-    kept = kept_name()
-    missed = 0
     with tempfile.TemporaryDirectory() as folder:
-        for label, word, old, new in PLANTS:
+        for label, _, old, new in PLANTS:
             with open('%s/%s.edit' % (folder, label), 'w') as out:
                 out.write('file: src/lib.rt\nold: %s\nnew: %s\n' % (old, new))
-            fine, line = verdict('halves', label, kept, folder)
-            told = not fine and word in line
-            print('refused: planted %s: %s' % (label, 'told' if told else 'MISSED: ' + line))
-            missed += not told
+        told = verdicts('halves', [label for label, _, _, _ in PLANTS], kept_name(), folder)[1:]
+    missed = 0
+    for (label, word, _, _), (fine, line) in zip(PLANTS, told):
+        found = not fine and word in line
+        print('refused: planted %s: %s' % (label, 'told' if found else 'MISSED: ' + line))
+        missed += not found
     return 1 if missed else 0
 
 
@@ -162,31 +184,31 @@ def main(names):
     for name in names:
         if name not in listed:
             sys.exit('refused: crates.txt has no crate %s' % name)
-    edits = [
-        (crate, file[:-5])
-        for crate in names or listed
-        if os.path.isdir('crates/%s/refused' % crate)
-        for file in sorted(os.listdir('crates/%s/refused' % crate))
-        if file.endswith('.edit')
-    ]
-    unproved = {crate for crate, _ in edits if not os.path.isdir('target/rlib/%s.rlib' % crate)}
+    edits = {}
+    for crate in names or listed:
+        folder = 'crates/%s/refused' % crate
+        if os.path.isdir(folder):
+            edits[crate] = sorted(file[:-5] for file in os.listdir(folder) if file.endswith('.edit'))
+    unproved = [crate for crate in edits if not os.path.isdir('target/rlib/%s.rlib' % crate)]
     if unproved:
-        sys.exit('refused: not proved yet (rt check): ' + ' '.join(sorted(unproved)))
-    shutil.rmtree(ROOMS, ignore_errors=True)
+        sys.exit('refused: not proved yet (rt check): ' + ' '.join(unproved))
     kept = kept_name()
     passed = failed = 0
+    # The last crates come first: they stand on the most, so they take longest, and none is left to wait for at the end.
+    crates = sorted(edits, key=listed.index, reverse=True)
     with concurrent.futures.ThreadPoolExecutor(os.cpu_count()) as pool:
-        tasks = [(crate, None) for crate in sorted({crate for crate, _ in edits}, key=listed.index)] + edits
-        for (crate, label), (fine, line) in zip(tasks, pool.map(lambda task: verdict(*task, kept), tasks)):
-            print('refused: ' + line, flush=True)
-            passed += fine and label is not None
-            failed += not fine
+        for told in pool.map(lambda crate: verdicts(crate, edits[crate], kept, 'crates/%s/refused' % crate), crates):
+            for fine, line in told:
+                print('refused: ' + line, flush=True)
+                passed += fine
+                failed += not fine
+            passed -= told[0][0]
     for crate in [] if names else listed:
         folder = 'target/must-fail/' + crate
         for label in sorted(os.listdir(folder)) if os.path.isdir(folder) else []:
             log = '%s/%s/.log' % (folder, label)
             if os.path.isfile(log) and of_another_shape(open(log).read()):
-                print('refused: %s/%s, tried by rt ci: BAD EDIT: the proof no longer fits, which shows nothing' % (crate, label))
+                print('refused: %s/%s, tried by rt ci: BAD EDIT: the proof no longer fits: see %s' % (crate, label, log))
                 failed += 1
     print('refused: %d edits refused, %d failed' % (passed, failed))
     return 1 if failed else 0

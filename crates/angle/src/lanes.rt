@@ -21,7 +21,7 @@ fn ratios(y: [f32; 4], x: [f32; 4]) -> [f64; 4]
     let mut r: [f64; 4] = [0.0; 4];
     let mut l = 0;
     while l < 4 {
-        r[l] = crate::arc::ratio_of(number::widen::widen(y[l]), number::widen::widen(x[l]));
+        r[l] = crate::flat::ratio_of(number::widen::widen(y[l]), number::widen::widen(x[l]));
         l += 1;
     }
     r
@@ -33,7 +33,7 @@ fn flat_angles(q: [f64; 4]) -> [f64; 4]
     let mut r: [f64; 4] = [0.0; 4];
     let mut l = 0;
     while l < 4 {
-        r[l] = crate::arc::flat_angle(q[l]);
+        r[l] = crate::flat::flat_angle(q[l]);
         l += 1;
     }
     r

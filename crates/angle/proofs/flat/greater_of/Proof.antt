@@ -1,7 +1,7 @@
--- `angle::arc::greater_of` meets its contract. Assumes nothing.
+-- `angle::flat::greater_of` meets its contract. Assumes nothing.
 use Rattle.angle.specs.Arc.{greater}
-use Rattle.angle.proofs.arc.greater_of.Statement.{statement}
-use Rattle.angle.proofs.arc.greater_of.Tie as tie
+use Rattle.angle.proofs.flat.greater_of.Statement.{statement}
+use Rattle.angle.proofs.flat.greater_of.Tie as tie
 
 returns : tie.Need-returns
 unfolding greater

@@ -1,10 +1,10 @@
--- `angle::arc::arc_series` meets its contract, by computation. Assumes nothing.
+-- `angle::flat::arc_series` meets its contract, by computation. Assumes nothing.
 use mathlib.Core.Path.{refl}
 use lib.Ieee.{ofBits, ofInt, div}
 use Rattle.angle.specs.Numbers.{whole}
 use Rattle.angle.specs.Arc.{odds, part}
-use Rattle.angle.proofs.arc.arc_series.Statement.{statement}
-use Rattle.angle.proofs.arc.arc_series.Tie as tie
+use Rattle.angle.proofs.flat.arc_series.Statement.{statement}
+use Rattle.angle.proofs.flat.arc_series.Tie as tie
 
 returns : tie.Need-returns
 unfolding odds part whole ofInt ofBits div

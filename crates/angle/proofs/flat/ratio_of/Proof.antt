@@ -1,7 +1,7 @@
--- `angle::arc::ratio_of` meets its contract. Assumes nothing.
+-- `angle::flat::ratio_of` meets its contract. Assumes nothing.
 use borrow.Author.Needs.{needs}
-use Rattle.angle.proofs.arc.ratio_of.Statement.{statement}
-use Rattle.angle.proofs.arc.ratio_of.Tie as tie
+use Rattle.angle.proofs.flat.ratio_of.Statement.{statement}
+use Rattle.angle.proofs.flat.ratio_of.Tie as tie
 
 magnitude-f64-requires : tie.Need-magnitude-f64-requires
 magnitude-f64-requires c κs = search needs

@@ -1,7 +1,7 @@
--- `angle::arc::of_sizes` meets its contract. Assumes nothing.
+-- `angle::flat::of_sizes` meets its contract. Assumes nothing.
 use lib.Ieee.{ofBits, div}
-use Rattle.angle.proofs.arc.of_sizes.Statement.{statement}
-use Rattle.angle.proofs.arc.of_sizes.Tie as tie
+use Rattle.angle.proofs.flat.of_sizes.Statement.{statement}
+use Rattle.angle.proofs.flat.of_sizes.Tie as tie
 
 returns : tie.Need-returns
 returns c = simp (c .if1 .taken)

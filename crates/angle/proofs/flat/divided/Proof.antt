@@ -1,8 +1,8 @@
--- `angle::arc::divided` meets its contract. Assumes nothing.
+-- `angle::flat::divided` meets its contract. Assumes nothing.
 use borrow.Author.Needs.{needs}
 use Rattle.angle.specs.Arc.{quotient}
-use Rattle.angle.proofs.arc.divided.Statement.{statement}
-use Rattle.angle.proofs.arc.divided.Tie as tie
+use Rattle.angle.proofs.flat.divided.Statement.{statement}
+use Rattle.angle.proofs.flat.divided.Tie as tie
 
 of-sizes-requires : tie.Need-of-sizes-requires
 of-sizes-requires c κs = search needs

@@ -1,7 +1,7 @@
--- `angle::arc::smaller_of` meets its contract. Assumes nothing.
+-- `angle::flat::smaller_of` meets its contract. Assumes nothing.
 use Rattle.angle.specs.Arc.{smaller}
-use Rattle.angle.proofs.arc.smaller_of.Statement.{statement}
-use Rattle.angle.proofs.arc.smaller_of.Tie as tie
+use Rattle.angle.proofs.flat.smaller_of.Statement.{statement}
+use Rattle.angle.proofs.flat.smaller_of.Tie as tie
 
 returns : tie.Need-returns
 unfolding smaller

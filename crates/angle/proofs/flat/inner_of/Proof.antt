@@ -1,8 +1,8 @@
--- `angle::arc::inner_of` meets its contract. Assumes nothing.
+-- `angle::flat::inner_of` meets its contract. Assumes nothing.
 use borrow.Author.Needs.{needs}
 use Rattle.angle.specs.Arc.{inner}
-use Rattle.angle.proofs.arc.inner_of.Statement.{statement}
-use Rattle.angle.proofs.arc.inner_of.Tie as tie
+use Rattle.angle.proofs.flat.inner_of.Statement.{statement}
+use Rattle.angle.proofs.flat.inner_of.Tie as tie
 
 above-bound-requires : tie.Need-above-bound-requires
 above-bound-requires c κs = search needs

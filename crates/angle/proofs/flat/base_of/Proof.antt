@@ -1,7 +1,7 @@
--- `angle::arc::base_of` meets its contract. Assumes nothing.
+-- `angle::flat::base_of` meets its contract. Assumes nothing.
 use Rattle.angle.specs.Arc.{base}
-use Rattle.angle.proofs.arc.base_of.Statement.{statement}
-use Rattle.angle.proofs.arc.base_of.Tie as tie
+use Rattle.angle.proofs.flat.base_of.Statement.{statement}
+use Rattle.angle.proofs.flat.base_of.Tie as tie
 
 returns : tie.Need-returns
 unfolding base

@@ -1,6 +1,6 @@
--- `angle::arc::above_bound` meets its contract. Assumes nothing.
-use Rattle.angle.proofs.arc.above_bound.Statement.{statement}
-use Rattle.angle.proofs.arc.above_bound.Tie as tie
+-- `angle::flat::above_bound` meets its contract. Assumes nothing.
+use Rattle.angle.proofs.flat.above_bound.Statement.{statement}
+use Rattle.angle.proofs.flat.above_bound.Tie as tie
 
 returns : tie.Need-returns
 returns c = simp (c .if1 .taken)

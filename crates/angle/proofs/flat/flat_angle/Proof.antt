@@ -1,8 +1,8 @@
--- `angle::arc::flat_angle` meets its contract. Assumes nothing.
+-- `angle::flat::flat_angle` meets its contract. Assumes nothing.
 use borrow.Author.Needs.{needs}
 use Rattle.angle.specs.Arc.{flat}
-use Rattle.angle.proofs.arc.flat_angle.Statement.{statement}
-use Rattle.angle.proofs.arc.flat_angle.Tie as tie
+use Rattle.angle.proofs.flat.flat_angle.Statement.{statement}
+use Rattle.angle.proofs.flat.flat_angle.Tie as tie
 
 inner-of-requires : tie.Need-inner-of-requires
 inner-of-requires c κs = search needs
