@@ -9,7 +9,7 @@ use Rattle.stage.specs.Floats.{plusZero}
 use Rattle.stage.specs.Run.{outs, end}
 use Rattle.stage.specs.Layout.{pairs, flat}
 use Rattle.nco.specs.declared.Nco.{Nco}
-use Rattle.nco.specs.declared.blocks.Turn.{Turn}
+use Rattle.nco.specs.declared.turn.Turn.{Turn}
 use Rattle.nco.specs.Mix.{Spin, mixedAt, spun, spin}
 
 abbrev pub spinOf : Turn → Spin

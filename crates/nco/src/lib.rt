@@ -8,6 +8,7 @@
 mod blocks;
 mod rules;
 mod tune;
+mod turn;
 
 ghost use mathlib.Core.Path.{_≡_};
 ghost use Rattle.nco.specs.Call.{made, retuned, mixed, cleared};

@@ -2,7 +2,7 @@
 use Prim.Native.Nat.{ℕ, _+_, _-_, _%_, _≤_, _<_}
 use native.Mathlib.Nat.{le-trans, le-of-eq, lt-of-lt-of-le}
 use native.Mathlib.Omega.{arith}
-use mathlib.Core.Path.{_≡_, refl, _∙_}
+use mathlib.Core.Path.{_≡_, refl, ap, _∙_}
 use lib.ListN.{length, length-set}
 use Rattle.nco.specs.Mix.{mixedAt}
 use Rattle.nco.specs.Blocks.{spinOf, ahead}
@@ -58,6 +58,9 @@ slice-read-widen-2 c = second (c .before .before .before)
 widen-requires-2 : tie.Need-widen-requires-2 Inv-loop μ-loop
 widen-requires-2 c κs = search needs
 
+mixed-requires : tie.Need-mixed-requires Inv-loop μ-loop
+mixed-requires c κs = search needs
+
 narrow-requires : tie.Need-narrow-requires Inv-loop μ-loop
 narrow-requires c κs = search needs
 
@@ -77,7 +80,7 @@ mul-iq-2 : tie.Need-mul-iq-2 Inv-loop μ-loop
 mul-iq-2 c = search needs
 
 slice-write-iq-2 : tie.Need-slice-write-iq-2 Inv-loop μ-loop
-slice-write-iq-2 c = simp length-set (second (c .before .before .before .before .before .before .before .before .before .before))
+slice-write-iq-2 c = simp length-set (second (c .before .before .before .before .before .before .before))
 
 next-requires : tie.Need-next-requires Inv-loop μ-loop
 next-requires c κs = search needs
@@ -92,8 +95,9 @@ loop-again : tie.Need-loop-again Inv-loop μ-loop
 unfolding mixedAt
 loop-again c =
     let w = c .before in
-    let first = w .before .before .before in
-    let q = first .before .before .before in
+    let first = w .before in
+    let m = first .before in
+    let q = m .before in
     let i = q .before .before in
     let at = i .before .before .before in
     let l = at .loop in
@@ -104,7 +108,7 @@ loop-again c =
       simp length-set (l .inv .3),
       on _ _ (l .inv .4),
       even-on _ _ (l .inv .5),
-      rw (c .next .ensures, w .narrow2 .ensures, first .narrow .ensures, q .widen2 .ensures, i .widen .ensures)
+      rw (c .next .ensures, w .narrow2 .ensures, first .narrow .ensures, ap (λ p. p .0) (m .mixed .ensures), ap (λ p. p .1) (m .mixed .ensures), q .widen2 .ensures, i .widen .ensures)
           (ahead-turns (a .self) (l .iq) (l .k) (l .k + 1) (l .k + 2) (spinOf (l .turn)) _ _ refl refl (second (i .before .before)) refl ∙ l .inv .6),
     )
 
@@ -132,6 +136,7 @@ singles-spec =
     mul-widen-2
     slice-read-widen-2
     widen-requires-2
+    mixed-requires
     narrow-requires
     mul-iq
     slice-write-iq
