@@ -1,11 +1,5 @@
--- A step of the DC remover whose outputs are finite keeps its sample: a mean that is not finite leaves no output finite. And what stands at a place of
--- I or Q, once they are put together. Assumes nothing.
-use Prim.Native.Nat.{ℕ, zero, suc, _+_, _*_, _<_}
-use native.Mathlib.Omega.{arith}
-use mathlib.Core.List.{List, [], _∷_}
-use lib.ListN.{length, getD}
-use Rattle.stage.specs.Layout.{flat, zip}
-use mathlib.Core.Path.{_≡_, refl}
+-- A step of the DC remover whose outputs are finite keeps its sample: a mean that is not finite leaves no output finite. Assumes nothing.
+use mathlib.Core.Path.{_≡_}
 use mathlib.Core.Bool.{true}
 use lib.Ieee.{Float, binary32}
 use lib.Ieee.Scale.{finite}
@@ -28,17 +22,3 @@ pub pair-kept : (s : DcRemover) (p : Float × Float) → finite (lessMean (s .al
     (record { «avg_i» = meanAfter (s .alpha) (s .«avg_i») (p .0); «avg_q» = meanAfter (s .alpha) (s .«avg_q») (p .1); alpha = s .alpha })
 unfolding pairStep
 pair-kept s p h k = rw (h, k, mean-finite (s .alpha) (s .«avg_i») (p .0) h, mean-finite (s .alpha) (s .«avg_q») (p .1) k)
-
--- ---- I and Q put together
-module _ {X : Type 0} where
-  pub left-at : (xs ys : List X) (k : ℕ) (d : X) → k < length xs → length ys ≡ length xs → getD (flat (zip xs ys)) (2 * k) d ≡ getD xs k d
-  left-at [] ys k d h e = absurd (omega arith)
-  left-at (x ∷ xs) [] k d h e = absurd (omega arith)
-  left-at (x ∷ xs) (y ∷ ys) zero d h e = refl
-  left-at (x ∷ xs) (y ∷ ys) (suc k) d h e = let n : 2 * suc k ≡ suc (suc (2 * k)) = omega arith in rw n (left-at xs ys k d (omega arith) (omega arith))
-
-  pub right-at : (xs ys : List X) (k : ℕ) (d : X) → k < length xs → length ys ≡ length xs → getD (flat (zip xs ys)) (2 * k + 1) d ≡ getD ys k d
-  right-at [] ys k d h e = absurd (omega arith)
-  right-at (x ∷ xs) [] k d h e = absurd (omega arith)
-  right-at (x ∷ xs) (y ∷ ys) zero d h e = refl
-  right-at (x ∷ xs) (y ∷ ys) (suc k) d h e = let n : 2 * suc k + 1 ≡ suc (suc (2 * k + 1)) = omega arith in rw n (right-at xs ys k d (omega arith) (omega arith))

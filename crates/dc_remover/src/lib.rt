@@ -6,7 +6,8 @@
 // `specs/Cases.antt` the marked cases 8 and 9. proofs/ shows that cutting a stream into calls and dropping
 // the struck samples change nothing else, and that no call makes a state that a later one refuses. The calls
 // work block by block (`block.rt`): a block is tried without a test at each sample (`trial.rt`), and worked in
-// the plain form (`plain.rt`) where a sample of it is struck. No public function here has a `requires`.
+// the plain form (`plain.rt`) where a sample of it is struck. I and Q in two slices are put together, worked as
+// pairs, and taken apart again. No public function here has a `requires`.
 mod block;
 mod plain;
 mod process;

@@ -1,4 +1,4 @@
-// The run of each call, sample by sample: the plain form, in which a struck sample shows.
+// The run over mono samples and over pairs, one by one: the plain form, in which a struck sample shows.
 use crate::DcRemover;
 use crate::DcRemoverDone;
 use crate::step::MonoStep;
@@ -7,10 +7,9 @@ use crate::step::mono_step;
 use crate::step::pair_step;
 ghost use mathlib.Core.Path.{_≡_};
 ghost use mathlib.Core.Bool.{true};
-ghost use Prim.Native.Nat.{min};
 ghost use lib.ListN.{length};
 ghost use Rattle.stage.specs.Length.{isEven};
-ghost use Rattle.stage.specs.Lent.{mono, interleaved, split};
+ghost use Rattle.stage.specs.Lent.{mono, interleaved};
 ghost use Rattle.stage.specs.Call.{ran};
 ghost use Rattle.dc_remover.specs.Process.{given, monoStage, pairStage};
 
@@ -62,37 +61,4 @@ impl DcRemover {
         }
         self.answer(stage::NONE, struck)
     }
-
-    // I and Q in a slice each, to the end of the shorter.
-    pub(crate) fn plain_split(mut self, i: &mut [f32], q: &mut [f32]) -> DcRemoverDone
-        ensures { λ r. ⌜ given r (now (i .exit), now (q .exit)) ≡ ran pairStage split self (now (i .entry), now (q .entry)) ⌝ }
-    {
-        let mut struck: usize = 0;
-        let n = shorter(i.len(), q.len());
-        let mut k: usize = 0;
-        while k < n {
-            match pair_step(self.alpha, self.avg_i, self.avg_q, i[k], q[k]) {
-                PairStep::Struck => {
-                    i[k] = 0.0;
-                    q[k] = 0.0;
-                    struck += 1;
-                }
-                PairStep::Kept(out_i, out_q, mean_i, mean_q) => {
-                    i[k] = out_i;
-                    q[k] = out_q;
-                    self.avg_i = mean_i;
-                    self.avg_q = mean_q;
-                }
-            }
-            k += 1;
-        }
-        self.answer(stage::NONE, struck)
-    }
-}
-
-// The length of the shorter slice.
-pub(crate) fn shorter(a: usize, b: usize) -> usize
-    ensures { λ r. ⌜ r ≡ min a b ⌝ }
-{
-    if a < b { a } else { b }
 }

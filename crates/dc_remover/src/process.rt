@@ -2,8 +2,8 @@
 // block, from the state that the block before gave.
 use crate::DcRemover;
 use crate::DcRemoverDone;
-use crate::plain::shorter;
 ghost use mathlib.Core.Path.{_≡_};
+ghost use Prim.Native.Nat.{min};
 ghost use Rattle.dc_remover.specs.Process.{given, processMono, process, processSplit};
 
 impl DcRemover {
@@ -40,8 +40,8 @@ impl DcRemover {
         let mut struck: usize = 0;
         let mut k: usize = 0;
         while k < data.len() {
-            let e = shorter(data.len(), k + 64);
-            let done = self.block_pairs(&mut data[k..e]);
+            let e = shorter(data.len(), k + 32);
+            let done = DcRemover::block_pairs(self.alpha, self.avg_i, self.avg_q, &mut data[k..e]);
             struck += done.struck;
             self = done.state;
             k = e;
@@ -70,4 +70,11 @@ impl DcRemover {
         }
         self.answer(stage::NONE, struck)
     }
+}
+
+// The lesser of two lengths.
+fn shorter(a: usize, b: usize) -> usize
+    ensures { λ r. ⌜ r ≡ min a b ⌝ }
+{
+    if a < b { a } else { b }
 }

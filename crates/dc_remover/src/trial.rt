@@ -3,10 +3,8 @@
 use crate::DcRemover;
 ghost use mathlib.Core.Path.{_≡_};
 ghost use mathlib.Core.Bool.{true};
-ghost use Prim.Native.Nat.{_+_};
 ghost use lib.ListN.{length};
 ghost use Rattle.stage.specs.Floats.{allFinite};
-ghost use Rattle.stage.specs.Layout.{flat, zip};
 ghost use Rattle.stage.specs.Length.{isEven};
 ghost use Rattle.stage.specs.Lent.{mono, interleaved};
 ghost use Rattle.stage.specs.Call.{gave, ran};
@@ -42,24 +40,6 @@ impl DcRemover {
             self.avg_i = mean_i;
             self.avg_q = mean_q;
             k += 2;
-        }
-        self
-    }
-
-    // The same of as many I as Q, in a slice each; the outputs lie as pairs.
-    pub(crate) fn try_split(mut self, i: &[f32], q: &[f32], z: &mut [f32]) -> DcRemover
-        requires { ⌜ (length (now z) ≡ length (now i) + length (now i)) × (length (now q) ≡ length (now i)) ⌝ }
-        ensures { λ r. ⌜ (allFinite (now (z .exit)) ≡ true → gave r 0 (now (z .exit)) ≡ ran pairStage interleaved self (flat (zip (now (i .entry)) (now (q .entry))))) ⌝ }
-    {
-        let mut k: usize = 0;
-        while k < i.len() {
-            let mean_i = stage::blend(self.alpha, self.avg_i, i[k]);
-            let mean_q = stage::blend(self.alpha, self.avg_q, q[k]);
-            z[2 * k] = i[k] - mean_i;
-            z[2 * k + 1] = q[k] - mean_q;
-            self.avg_i = mean_i;
-            self.avg_q = mean_q;
-            k += 1;
         }
         self
     }

@@ -62,17 +62,6 @@ module _ {X : Type 0} where
   zip-append (x ∷ xs) [] us vs e = absurd (omega arith)
   zip-append (x ∷ xs) (y ∷ ys) us vs e = ap {B = List (X × X)} (λ ps. (x, y) ∷ ps) (zip-append xs ys us vs (omega arith))
 
-  pub firsts-zip : (xs ys : List X) → length xs ≡ length ys → firsts (zip xs ys) ≡ xs
-  firsts-zip [] ys e = refl
-  firsts-zip (x ∷ xs) [] e = absurd (omega arith)
-  firsts-zip (x ∷ xs) (y ∷ ys) e = ap {B = List X} (λ r. x ∷ r) (firsts-zip xs ys (omega arith))
-
-  pub seconds-zip : (xs ys : List X) → length xs ≡ length ys → seconds (zip xs ys) ≡ ys
-  seconds-zip [] [] e = refl
-  seconds-zip [] (y ∷ ys) e = absurd (omega arith)
-  seconds-zip (x ∷ xs) [] e = absurd (omega arith)
-  seconds-zip (x ∷ xs) (y ∷ ys) e = ap {B = List X} (λ r. y ∷ r) (seconds-zip xs ys (omega arith))
-
   pub firsts-append : (ps qs : List (X × X)) → firsts (ps ++ qs) ≡ firsts ps ++ firsts qs
   firsts-append [] qs = refl
   firsts-append (p ∷ ps) qs = ap {B = List X} (λ r. p .0 ∷ r) (firsts-append ps qs)

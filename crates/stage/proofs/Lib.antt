@@ -35,12 +35,11 @@ pub mod Written
 -- a list worked out place by place, and a slice filled with a list that is known beforehand
 pub mod Counted
 pub mod Filling
--- the loop's invariant for each layout, that it begins, that a turn keeps it, and what it says at the end
+-- the loop's invariant for samples, for interleaved pairs and for outputs in another slice: that it begins, that a turn keeps it, and what it says at the end
 pub mod LoopMono
 pub mod LoopInterleaved
-pub mod LoopSplit
 pub mod LoopInto
--- a block tried without a test at each sample, and a run worked part by part
+-- a block tried without a test at each sample, and a run worked part by part: pairs in two slices as interleaved ones
 pub mod AllFinite
 pub mod Trial
 pub mod InParts

@@ -2,8 +2,9 @@
 use Prim.Native.Nat.{ℕ, _+_, _-_, _≤_, min}
 use native.Mathlib.Nat.{zero-add, add-zero}
 use native.Mathlib.Omega.{arith}
+use native.Mathlib.Decide.{decLe}
 use mathlib.Core.Path.{_≡_, refl, sym, ap, _∙_}
-use mathlib.Core.List.{List, [], _++_, append-assoc, append-nil}
+use mathlib.Core.List.{List, [], _∷_, _++_, append-assoc, append-nil}
 use lib.ListN.{length, take, drop, length-drop, drop-of-length-le, take-append-drop}
 use lib.Seq.{length-take-le}
 use borrow.Author.Tests.{eq-eqb}
@@ -16,23 +17,34 @@ use Rattle.stage.specs.Calls.{both}
 use Rattle.stage.proofs.Run.{length-outs}
 use Rattle.stage.proofs.Layouts.{pairs-flat, length-firsts, length-seconds, length-zip}
 use Rattle.stage.proofs.Lents.{split-lawful}
-use Rattle.stage.proofs.LoopSplit.{zip-past}
 use Rattle.stage.proofs.InParts.{Parted, parted-turns, strikes-le, put-taken, put-left, put-length, cut-part}
 
 over-whole : {X : Type 0} (os old : List X) → length os ≡ length old → over os old ≡ os
 over-whole os old e = let h : length old ≤ length os = omega arith in rw (drop-of-length-le old h, append-nil)
 
+module _ {X : Type 0} where
+  zip-nil : (xs : List X) → _≡_ {A = List (X × X)} (zip xs []) []
+  zip-nil [] = refl
+  zip-nil (x ∷ xs) = refl
+
+  -- from the end of the shorter on there are none
+  zip-past : (xs ys : List X) (i : ℕ) → min (length xs) (length ys) ≤ i → _≡_ {A = List (X × X)} (zip (drop i xs) (drop i ys)) []
+  zip-past xs ys i h = go (decLe (length xs) (length ys))
+    where
+      go : Dec (length xs ≤ length ys) → _≡_ {A = List (X × X)} (zip (drop i xs) (drop i ys)) []
+      go (yes k) = let g : length xs ≤ i = omega arith in rw (drop-of-length-le xs g)
+      go (no k) = let g : length ys ≤ i = omega arith in rw (drop-of-length-le ys g) (zip-nil (drop i xs))
+
 module _ {F S : Type 0} (g : Stage (F × F) (F × F) S) where
   -- as many I as Q, put together, run, and taken apart
   pub split-as-interleaved : (s : S) (xs ys : List F) (r : Given S (List F)) → length xs ≡ length ys → r ≡ ran g interleaved s (flat (zip xs ys))
-      → gave (r .state) (r .struck) (firsts (pairs (r .left)), seconds (pairs (r .left))) ≡ ran g split s (xs, ys)
+      → record { refusal = r .refusal; state = r .state; struck = r .struck; left = (firsts (pairs (r .left)), seconds (pairs (r .left))) } ≡ ran g split s (xs, ys)
   split-as-interleaved s xs ys r e is =
       let os : List (F × F) = outs (g .step) (g .silence) s (zip xs ys) in
       let n : length os ≡ length xs = length-outs (g .step) (g .silence) s (zip xs ys) ∙ length-zip xs ys (sym e) in
       let left = over-whole (firsts os) xs (length-firsts os ∙ n) in
       let right = over-whole (seconds os) ys (length-seconds os ∙ n ∙ e) in
-      ap (λ (q : Given S (List F)). gave (q .state) (q .struck) (firsts (pairs (q .left)), seconds (pairs (q .left)))) is
-      ∙ rw (pairs-flat (zip xs ys), pairs-flat os, left, right)
+      rw (is, pairs-flat (zip xs ys), pairs-flat os, left, right)
 
   -- from the state s₀ and the slices xs₀ and ys₀, at the place k with n struck
   pub record SplitParts (s₀ : S) (xs₀ ys₀ : List F) (m : ℕ) (xs ys : List F) (s : S) (n k : ℕ) : Type 0 where

@@ -78,7 +78,7 @@ add-struck c =
     let l = b .before .before .before .before .loop in
     let e = b .before .before .shorter .result in
     let size = length-take-le (e - l .k) (drop (l .k) (l .«data»)) (rw length-drop (omega arith)) in
-    let few = part-few pairStage interleaved (interleaved-row pairStage) (l .self) (take (e - l .k) (drop (l .k) (l .«data»))) (given (b .block-pairs .result) (b .block-pairs .last .1 .0)) (b .block-pairs .ensures) in
+    let few = part-few pairStage interleaved (interleaved-row pairStage) (l .self) (take (e - l .k) (drop (l .k) (l .«data»))) (given (b .block-pairs .result) (b .block-pairs .last .1 .1 .1 .0)) (b .block-pairs .ensures) in
     search needs
 
 loop-less : tie.Need-loop-less Inv-loop μ-loop
@@ -93,8 +93,8 @@ loop-again c =
     let even : length (take (e - l .k) (drop (l .k) (l .«data»))) % 2 ≡ 0 = omega arith in (
       omega arith,
       l .inv .1,
-      part-turns pairStage interleaved (interleaved-row pairStage) e (given (b .block-pairs .result) (b .block-pairs .last .1 .0)) (l .inv .2) (omega arith) (omega arith)
-          (eq-eqb _ _ even) (b .block-pairs .ensures) (b .block-pairs .kept .1 .0 ∙ size),
+      part-turns pairStage interleaved (interleaved-row pairStage) e (given (b .block-pairs .result) (b .block-pairs .last .1 .1 .1 .0)) (l .inv .2) (omega arith) (omega arith)
+          (eq-eqb _ _ even) (b .block-pairs .ensures) (b .block-pairs .kept .1 .1 .1 .0 ∙ size),
     )
 
 answer-requires-2 : tie.Need-answer-requires-2 Inv-loop μ-loop
