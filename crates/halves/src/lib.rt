@@ -1,7 +1,8 @@
 // I and Q of interleaved pairs, taken apart and put together again.
 //
-// Document 01, "The stages": a complex stream lies as pairs of I and Q. SSB takes one apart before its filters, and the
-// demo takes one apart before its decimators and puts it together behind them. `specs/Halves.antt` has the definitions.
+// Document 01, "The stages": a complex stream lies as pairs of I and Q. SSB takes one apart before its filters, the demo
+// takes one apart before its decimators and puts it together behind them, and the DC remover works I and Q in two
+// slices as pairs. `specs/Halves.antt` has the definitions.
 // Slices whose lengths do not fit stay as they are. No public function here has a `requires`.
 ghost use mathlib.Core.Path.{_≡_};
 ghost use Prim.Native.Nat.{_+_};
