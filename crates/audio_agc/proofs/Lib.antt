@@ -5,6 +5,8 @@ pub mod Hang
 pub mod Sound
 -- a signal's step whose floats are finite keeps its sample
 pub mod Tried
+-- the loop of a trial
+pub mod Trying
 -- demand 3: a stream cut into calls, and the struck samples dropped
 pub mod Streams
 pub mod Struck
