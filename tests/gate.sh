@@ -21,6 +21,7 @@ if [ -z "$proved" ]; then
   echo "gate: rt ci did not end with 'N passed, 0 failed'" >&2
   exit 1
 fi
+tests/refused.py --plants
 tests/refused.py | tee "$log"
 refused=$(sed -n '$s/^refused: \([0-9]*\) edits refused, 0 failed$/\1/p' "$log")
 if [ -z "$refused" ]; then

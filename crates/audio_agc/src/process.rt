@@ -26,7 +26,7 @@ impl AudioAgc {
         let mut struck: usize = 0;
         let mut k: usize = 0;
         while k < data.len() {
-            let e = least(data.len(), k + 64);
+            let e = least(data.len(), k + 32);
             let done = self.block(&mut data[k..e]);
             struck += done.struck;
             self = done.state;
@@ -35,18 +35,18 @@ impl AudioAgc {
         self.answer(stage::NONE, struck)
     }
 
-    // Up to 64 samples. What is lent stays as it is until the trial has shown that none is struck. Dead air goes
+    // Up to 32 samples. What is lent stays as it is until the trial has shown that none is struck. Dead air goes
     // on as a rule, so a block that begins in it is not tried.
     fn block(self, data: &mut [f32]) -> AudioAgcDone
         ensures { λ r. ⌜ given r (now («data» .exit)) ≡ ran audioStage mono self (now («data» .entry)) ⌝ }
     {
-        if data.len() != 64 {
+        if data.len() != 32 {
             return self.plain(data);
         }
         if !(self.min_magnitude < self.envelope) {
             return self.plain(data);
         }
-        let mut z: [f32; 64] = [0.0; 64];
+        let mut z: [f32; 32] = [0.0; 32];
         let tried = self.try_live(&data[..], &mut z[..]);
         if !tried.kept {
             return self.plain(data);

@@ -1,15 +1,15 @@
 -- Laws of what a call is lent, the same for each layout: outputs written are read back, parts joined are samples in a row, fewer samples still meet the demands. Assumes nothing.
-use Prim.Native.Nat.{ℕ, suc, _+_, _≤_, _%_}
+use Prim.Native.Nat.{ℕ, _+_, _≤_, _%_}
 use native.Mathlib.Omega.{arith}
 use mathlib.Core.Path.{_≡_, refl, sym, ap, _∙_}
 use mathlib.Core.Bool.{true, _&&_, and-eq-true-iff}
-use mathlib.Core.List.{List, [], _∷_, _++_}
-use lib.ListN.{length}
+use mathlib.Core.List.{List, [], _∷_, _++_, append-nil}
+use lib.ListN.{length, drop-of-length-le}
 use borrow.Author.Tests.{eqb-true, eq-eqb, leb-true, le-leb}
 use Rattle.stage.specs.Length.{LONGEST, isWithin, isEven}
 use Rattle.stage.specs.Layout.{flat, zip, firsts, seconds, over}
 use Rattle.stage.specs.Lent.{Lent, mono, interleaved, split}
-use Rattle.stage.proofs.Layouts.{flat-append, pairs-append, pairs-flat, length-pairs, zip-append, firsts-append, seconds-append}
+use Rattle.stage.proofs.Layouts.{flat-append, pairs-append, pairs-flat, length-pairs, zip-append, firsts-append, seconds-append, length-firsts, length-seconds, length-zip, length-flat}
 
 pub record Lawful {A X : Type 0} (l : Lent A X) : Type 0 where
   pub samples-lay : (ps : List A) → l .samples (l .lay ps) ≡ ps
@@ -38,10 +38,6 @@ module _ {F : Type 0} where
         even-lay = λ ps. refl;
       }
 
-  length-flat : (ps : List (F × F)) → length (flat ps) ≡ length ps + length ps
-  length-flat [] = refl
-  length-flat (p ∷ ps) = let e = length-flat ps in omega arith
-
   flat-even : (ps : List (F × F)) → isEven (length (flat ps)) ≡ true
   flat-even ps = let e = length-flat ps in eq-eqb (length (flat ps) % 2) 0 (omega arith)
 
@@ -59,14 +55,6 @@ module _ {F : Type 0} where
 
   -- ---- side by side
 
-  length-firsts : (ps : List (F × F)) → length (firsts ps) ≡ length ps
-  length-firsts [] = refl
-  length-firsts (p ∷ ps) = ap suc (length-firsts ps)
-
-  length-seconds : (ps : List (F × F)) → length (seconds ps) ≡ length ps
-  length-seconds [] = refl
-  length-seconds (p ∷ ps) = ap suc (length-seconds ps)
-
   zip-back : (ps : List (F × F)) → zip (firsts ps) (seconds ps) ≡ ps
   zip-back [] = refl
   zip-back (p ∷ ps) = ap {B = List (F × F)} (λ qs. p ∷ qs) (zip-back ps)
@@ -77,11 +65,6 @@ module _ {F : Type 0} where
   zip-short (x ∷ xs) [] = (omega arith, omega arith)
   zip-short (x ∷ xs) (y ∷ ys) = let h = zip-short xs ys in (omega arith, omega arith)
 
-  zip-same : (xs ys : List F) → length xs ≡ length ys → length (zip xs ys) ≡ length xs
-  zip-same [] ys e = refl
-  zip-same (x ∷ xs) [] e = absurd (omega arith)
-  zip-same (x ∷ xs) (y ∷ ys) e = ap suc (zip-same xs ys (omega arith))
-
   zip-written : (os : List (F × F)) (xs ys : List F) → length os ≡ length (zip xs ys) → zip (over (firsts os) xs) (over (seconds os) ys) ≡ os
   zip-written [] [] ys e = refl
   zip-written [] (x ∷ xs) [] e = refl
@@ -90,11 +73,8 @@ module _ {F : Type 0} where
   zip-written (o ∷ os) (x ∷ xs) [] e = absurd (omega arith)
   zip-written (o ∷ os) (x ∷ xs) (y ∷ ys) e = ap {B = List (F × F)} (λ ps. o ∷ ps) (zip-written os xs ys (omega arith))
 
-  over-all : (os xs : List F) → length os ≡ length xs → over os xs ≡ os
-  over-all [] [] e = refl
-  over-all [] (x ∷ xs) e = absurd (omega arith)
-  over-all (o ∷ os) [] e = absurd (omega arith)
-  over-all (o ∷ os) (x ∷ xs) e = ap {B = List F} (λ r. o ∷ r) (over-all os xs (omega arith))
+  pub over-all : (os xs : List F) → length os ≡ length xs → over os xs ≡ os
+  over-all os xs e = let h : length xs ≤ length os = omega arith in rw (drop-of-length-le xs h, append-nil)
 
   over-append : (os ps xs ys : List F) → length os ≡ length xs → over (os ++ ps) (xs ++ ys) ≡ over os xs ++ over ps ys
   over-append [] ps [] ys e = refl
@@ -116,7 +96,7 @@ module _ {F : Type 0} where
       → (over (firsts (os ++ ps)) (xs ++ us) ≡ over (firsts os) xs ++ over (firsts ps) us)
       × (over (seconds (os ++ ps)) (ys ++ vs) ≡ over (seconds os) ys ++ over (seconds ps) vs)
   split-join os ps xs ys us vs w e =
-      let n = zip-same xs ys w in
+      let n = length-zip xs ys (sym w) in
       let e₁ : length (firsts os) ≡ length xs = length-firsts os ∙ e ∙ n in
       let e₂ : length (seconds os) ≡ length ys = length-seconds os ∙ e ∙ n ∙ w in
       (rw (firsts-append os ps) (over-append (firsts os) (firsts ps) xs us e₁), rw (seconds-append os ps) (over-append (seconds os) (seconds ps) ys vs e₂))

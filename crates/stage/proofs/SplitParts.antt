@@ -4,11 +4,11 @@ use native.Mathlib.Nat.{zero-add, add-zero}
 use native.Mathlib.Omega.{arith}
 use native.Mathlib.Decide.{decLe}
 use mathlib.Core.Path.{_≡_, refl, sym, ap, _∙_}
-use mathlib.Core.List.{List, [], _∷_, _++_, append-assoc, append-nil}
+use mathlib.Core.List.{List, [], _∷_, _++_, append-assoc}
 use lib.ListN.{length, take, drop, length-drop, drop-of-length-le, take-append-drop}
 use lib.Seq.{length-take-le}
 use borrow.Author.Tests.{eq-eqb}
-use Rattle.stage.specs.Layout.{pairs, flat, zip, firsts, seconds, over}
+use Rattle.stage.specs.Layout.{pairs, flat, zip, firsts, seconds}
 use Rattle.stage.specs.Lent.{interleaved, split}
 use Rattle.stage.specs.Run.{outs}
 use Rattle.stage.specs.Stage.{Stage}
@@ -16,11 +16,8 @@ use Rattle.stage.specs.Call.{Given, gave, ran}
 use Rattle.stage.specs.Calls.{both}
 use Rattle.stage.proofs.Run.{length-outs}
 use Rattle.stage.proofs.Layouts.{pairs-flat, length-firsts, length-seconds, length-zip}
-use Rattle.stage.proofs.Lents.{split-lawful}
+use Rattle.stage.proofs.Lents.{over-all, split-lawful}
 use Rattle.stage.proofs.InParts.{Parted, parted-turns, strikes-le, put-taken, put-left, put-length, cut-part}
-
-over-whole : {X : Type 0} (os old : List X) → length os ≡ length old → over os old ≡ os
-over-whole os old e = let h : length old ≤ length os = omega arith in rw (drop-of-length-le old h, append-nil)
 
 module _ {X : Type 0} where
   zip-nil : (xs : List X) → _≡_ {A = List (X × X)} (zip xs []) []
@@ -42,8 +39,8 @@ module _ {F S : Type 0} (g : Stage (F × F) (F × F) S) where
   split-as-interleaved s xs ys r e is =
       let os : List (F × F) = outs (g .step) (g .silence) s (zip xs ys) in
       let n : length os ≡ length xs = length-outs (g .step) (g .silence) s (zip xs ys) ∙ length-zip xs ys (sym e) in
-      let left = over-whole (firsts os) xs (length-firsts os ∙ n) in
-      let right = over-whole (seconds os) ys (length-seconds os ∙ n ∙ e) in
+      let left = over-all (firsts os) xs (length-firsts os ∙ n) in
+      let right = over-all (seconds os) ys (length-seconds os ∙ n ∙ e) in
       rw (is, pairs-flat (zip xs ys), pairs-flat os, left, right)
 
   -- from the state s₀ and the slices xs₀ and ys₀, at the place k with n struck
