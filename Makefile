@@ -27,8 +27,7 @@ lib: ## build/libthreshlantern.a and build/threshlantern.h, the library for C an
 demo: ## build/demo: pairs of bytes on standard input, f32 of sound on standard output
 	@tests/need.sh rt
 	@rt check demo
-	@mkdir -p build
-	@cp target/bin/demo build/
+	@tests/program.sh demo
 
 faces: lib demo ## run what C and Rust see: header, symbols, examples, the crate's tests, the demo on cut pipes
 	@tests/faces.sh

@@ -1,6 +1,7 @@
 #!/usr/bin/env bash
 # What C and Rust see of the library: the declarations against the source, the archive's symbols, the C example and the
-# C checks, the Rust crate's tests and its example, and the demo on cut pipes. It needs `make lib` and `make demo`.
+# C checks, the Rust crate's tests and its example, and the demo: on cut pipes, and as build/demo by itself. It needs `make
+# lib` and `make demo`.
 #
 # The archive that ships is for x86-64. What is linked and run here is target/here/libthreshlantern.a, and where there is
 # none, that is said. The Rust crate finds it by THRESHLANTERN_LIB.
@@ -71,6 +72,10 @@ if [ ! -f "$THRESHLANTERN_LIB/libthreshlantern.a" ]; then
   exit 0
 fi
 tests/run.sh demo < captures/alarm.cu8 > "$work/demo"
+tests/program.sh demo
+if [ "$(uname -m)" = x86_64 ]; then
+  same "build/demo, run as it is," build/demo
+fi
 c_face
 rust_crate
 echo "faces: all as it should be"

@@ -1,6 +1,7 @@
 #!/usr/bin/env bash
-# Runs a program that rt built: tests/run.sh NAME [FOLDER], in that folder where one is named. Programs are for x86-64
-# Linux; on another machine the toolchain's own emulator, loader and C library run it, as rt does.
+# Runs a program that rt built: tests/run.sh NAME [FOLDER], in that folder where one is named. As rt does, under the
+# toolchain's own loader and C library, which may be newer than the machine's, and where the machine is not x86-64 under
+# its emulator too.
 set -eu
 cd "$(dirname "$0")/.."
 program=$PWD/target/bin/$1
@@ -9,9 +10,8 @@ if [ ! -x "$program" ]; then
   exit 2
 fi
 cd "${2:-.}"
-if [ "$(uname -m)" = x86_64 ]; then
-  exec "$program"
-fi
 guide=$(rt doc)
 tools=${guide%/docs/*}/on/$(uname -m)/toolchain
-exec "$tools/bin/qemu-x86_64" "$tools/lib/ld-linux-x86-64.so.2" --library-path "$tools/lib" "$program"
+emulator=$tools/bin/qemu-x86_64
+[ -x "$emulator" ] || emulator=
+exec ${emulator:+"$emulator"} "$tools/lib/ld-linux-x86-64.so.2" --library-path "$tools/lib" "$program"
