@@ -7,8 +7,8 @@ usage: tests/refused.py [NAME ...]    those of every crate, or of the crates nam
 `rt ci` tries those of crates/NAME/must-fail in the same form, and proves the whole crate anew for each. Here a check starts
 from the modules that were checked when the crate was proved, and checks those that the edit reaches, which takes seconds.
 That the crate itself is proved in this way is seen first, so that a refusal is the edit's. An edit counts only where a
-fact no longer holds: one that changes the shape of the code, so that its proof speaks of other steps, is told as a failure,
-and so is one that `rt ci` has tried.
+fact no longer holds: one that changes the shape of the code, so that its proof speaks of other steps, is told as a failure.
+The logs that `rt ci` left of its own edits are held to the same.
 """
 import concurrent.futures
 import os
@@ -102,12 +102,12 @@ def make_edit(folder, path):
 
 
 def first_error(printed, folder):
-    """Where the first error stands and what it says."""
+    """Where the first error stands, or nothing: what is proved with no file of its own has notes alone."""
     for line in printed.split('\n'):
         at = line.find(': error: ')
         if at >= 0:
-            return line[:at].split(folder + '/')[-1], line[at + 9:]
-    return '', ''
+            return line[:at].split(folder + '/')[-1]
+    return ''
 
 
 def of_another_shape(printed):
@@ -135,7 +135,7 @@ def verdict(room, label, edits):
     proved, refused = '\nlogic=proved' in printed, '\nlogic=not-proved' in printed
     if not label:
         return proved, '%s as it is: %s (%s)' % (room.crate, 'proved' if proved else 'NOT PROVED: see ' + log, took)
-    where, says = first_error(printed, room.folder)
+    where = first_error(printed, room.folder)
     if proved or not refused:
         return False, '%s: NOT REFUSED: see %s (%s)' % (name, log, took)
     if of_another_shape(printed):
@@ -192,6 +192,8 @@ def main(names):
     unproved = [crate for crate in edits if not os.path.isdir('target/rlib/%s.rlib' % crate)]
     if unproved:
         sys.exit('refused: not proved yet (rt check): ' + ' '.join(unproved))
+    if not edits:
+        sys.exit('refused: there is no edit to try')
     kept = kept_name()
     passed = failed = 0
     # The last crates come first: they stand on the most, so they take longest, and none is left to wait for at the end.
