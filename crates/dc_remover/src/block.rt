@@ -22,7 +22,7 @@ impl DcRemover {
         if !stage::all_finite(&z[..]) {
             return self.plain_mono(data);
         }
-        crate::copy::copy(&z[..], data);
+        stage::copy(&z[..], data);
         after.answer(stage::NONE, 0)
     }
 
@@ -45,7 +45,7 @@ impl DcRemover {
         if !stage::all_finite(&z[..]) {
             return state.plain_pairs(data);
         }
-        crate::copy::copy(&z[..], data);
+        stage::copy(&z[..], data);
         after.answer(stage::NONE, 0)
     }
 

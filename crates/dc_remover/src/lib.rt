@@ -9,7 +9,6 @@
 // the plain form (`plain.rt`) where a sample of it is struck. I and Q in two slices are put together, worked as
 // pairs, and taken apart again. No public function here has a `requires`.
 mod block;
-mod copy;
 mod plain;
 mod process;
 mod step;

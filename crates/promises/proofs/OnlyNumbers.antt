@@ -107,6 +107,9 @@ blend h x y = one_answer (λ r. (r, (tt, (tt, (tt, tt)))))
 pub only_all_finite : NoSecond stage.all_finite.ended stage.all_finite.Reads.Learnt
 only_all_finite h x y = one_answer (λ r. (r, (tt, tt)))
 
+pub copy : NoSecond stage.copy.ended stage.copy.Reads.Learnt
+copy h x y = one_answer (λ to. (tt, (tt, (to, tt))))
+
 -- ---- halves: of I and Q, and of the pairs, which is all that these two answer
 
 pub split : NoSecond halves.split.ended halves.split.Reads.Learnt

@@ -1,4 +1,4 @@
--- Laws of the square root. `Told` has what a customer is promised of it; request 03's methods cite Whole and Scale.
+-- Laws of the square root. `Told` and `EveryRoot` have what a customer is promised of it; request 03's methods cite Whole and Scale.
 pub mod Squares
 pub mod Whole
 pub mod Rounds
@@ -6,6 +6,7 @@ pub mod Value
 pub mod Fits
 pub mod Sides
 pub mod Near
+pub mod EveryRoot
 pub mod Told
 pub mod Patterns
 pub mod Scale

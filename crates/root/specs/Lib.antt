@@ -1,6 +1,7 @@
--- Definitions: Root (the public contract cites it), Nearest (what the root is, without the method), Inside (what
--- private parts promise each other). Cases has worked values.
+-- Definitions: Root (the public contract cites it), Nearest and EveryRoot (what the root is, without the method: of an x
+-- above zero, and of every x), Inside (what private parts promise each other). Cases has worked values.
 pub mod Root
 pub mod Nearest
+pub mod EveryRoot
 pub mod Inside
 pub mod Cases

@@ -1,5 +1,5 @@
 -- How samples lie in slices: pairs interleaved in one or side by side in two, and a slice whose first places, or all, are written. Definitions only.
-use Rattle.std.specs.Prelude.{List, [], ◌∷◌, ◌++◌, cond, length, drop}
+use Rattle.std.specs.Prelude.{List, [], ◌∷◌, ◌++◌, cond, eqb, length, drop}
 
 module _ {X : Type 0} where
   -- an interleaved list taken two at a time; an odd last element is left out
@@ -31,3 +31,7 @@ module _ {X : Type 0} where
   -- a slice that was `old`, once `os` is written at its start: the places after it stay
   abbrev pub over : List X → List X → List X
   over os old = os ++ drop (length os) old
+
+  -- a slice that was `old`, once `xs` is written to all of it; one that has not as many places stays
+  abbrev pub copied : List X → List X → List X
+  copied xs old = cond (eqb (length xs) (length old)) xs old

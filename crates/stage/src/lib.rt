@@ -12,7 +12,7 @@ mod numbers;
 mod settings;
 mod step;
 
-pub use block::all_finite;
+pub use block::{all_finite, copy};
 pub use numbers::{LENGTH, LIMIT, LONGEST, NONE, ROOM, SETTING, STATE, even, refusal, within};
 pub use settings::{in_unit, not_negative, positive, positive_f64};
 pub use step::{blend, both_finite};

@@ -1,6 +1,8 @@
 -- `dc_remover::DcRemover::block_mono` meets its contract: a trial whose outputs are all finite gave what the run gives. Assumes nothing.
+use native.Mathlib.Omega.{arith}
 use mathlib.Core.Path.{◌≡◌, sym, ◌∙◌}
-use borrow.Author.Tests.{not-false}
+use lib.ListN.{length}
+use borrow.Author.Tests.{eq-eqb, not-false}
 use borrow.Author.Rules.{rules}
 use Rattle.dc_remover.proofs.DcRemover.block_mono.Statement.{statement}
 use Rattle.dc_remover.proofs.DcRemover.block_mono.Tie as tie
@@ -52,7 +54,9 @@ returns-3 c =
     let w = c.before.before.before in
     let f = w.before.before.before.before in
     let t = f.before.before.before in
-    rw (c.answer.ensures, w.copy.ensures) (t.try-mono.ensures (sym f.only_all_finite.ensures ∙ not-false _ w.before.before.before.if2.false))
+    let d = t.before.before.before in
+    let fits : length t.try-mono.new.1.1.0 ≡ length d.before.before.args.«data».now = omega arith in
+    rw (c.answer.ensures, w.copy.ensures, eq-eqb _ _ fits) (t.try-mono.ensures (sym f.only_all_finite.ensures ∙ not-false _ w.before.before.before.if2.false))
 
 pub block-mono-spec : {M : Type 1} → statement M
 block-mono-spec =

@@ -1,0 +1,8 @@
+-- `angle::flat::divided` meets its contract. Assumes nothing.
+use borrow.Author.Rules.{rules}
+use Rattle.angle.specs.Arc.{quotient}
+use Rattle.angle.proofs.flat.divided.Goals as goal
+
+pub returns : goal.returns
+unfolding quotient
+returns c = c.of_sizes.ensures

@@ -1,0 +1,16 @@
+-- `angle::lanes::ratios` meets its contract. The loop's invariant: the lanes before l are done. Assumes nothing.
+use mathlib.Core.Path.{◌≡◌}
+use Prim.Native.Nat.{◌-◌, ◌≤◌}
+use native.Mathlib.Omega.{arith}
+use lib.ListN.{length, length-set}
+use Rattle.angle.specs.Parts.{ratio}
+use Rattle.angle.specs.Lanes.{lane, Holds}
+use Rattle.angle.proofs.Holding.{holds_more}
+use borrow.Author.Rules.{rules}
+use Rattle.angle.proofs.lanes.ratios.Given as goal
+
+abbrev pub invariant-loop-l : goal.invariant-loop-l
+invariant-loop-l l = (l.l ≤ 4) × (length l.r ≡ 4) × Holds (λ i. ratio (lane l.y i) (lane l.x i)) l.r l.l
+
+abbrev pub decreases-loop-l : goal.decreases-loop-l
+decreases-loop-l l = 4 - l.l

@@ -1,0 +1,8 @@
+-- `angle::turn::reduce` meets its contract. Assumes nothing.
+use borrow.Author.Rules.{rules}
+use Rattle.angle.specs.Turn.{reduced}
+use Rattle.angle.proofs.turn.reduce.Goals as goal
+
+pub returns : goal.returns
+unfolding reduced
+returns c = c.pull.ensures
