@@ -15,7 +15,7 @@ ghost use Rattle.agc.specs.State.{setting_met, state_met, made, answered};
 
 // The gain, the level that it brings a pair to, and how fast it falls and rises.
 #[repr(C)]
-#[derive(Drop)]
+#[derive(Clone, Copy)]
 pub struct Agc {
     pub gain: f32,
     pub target: f32,
@@ -26,7 +26,7 @@ pub struct Agc {
 // What every call answers: the number of the refusal, 0 for none; the state for the next call, which is
 // the one handed in where this one is refused; and how many pairs were struck.
 #[repr(C)]
-#[derive(Drop)]
+#[derive(Clone, Copy)]
 pub struct AgcDone {
     pub refusal: u32,
     pub state: Agc,

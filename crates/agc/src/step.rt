@@ -6,7 +6,7 @@ ghost use Rattle.agc.specs.Step.{agc_step};
 use crate::Agc;
 
 // Struck, or both outputs and the new gain.
-#[derive(Drop)]
+#[derive(Clone, Copy)]
 pub enum AgcStep {
     Struck,
     Kept(f32, f32, f32),

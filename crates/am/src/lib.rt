@@ -14,7 +14,7 @@ ghost use Rattle.am.specs.Process.{put, process_into};
 use step::AmStep;
 
 #[repr(C)]
-#[derive(Drop)]
+#[derive(Clone, Copy)]
 pub struct AmDemodulator {
     pub dc_alpha: f32,
     pub dc_mean: f32,
@@ -23,7 +23,7 @@ pub struct AmDemodulator {
 }
 
 #[repr(C)]
-#[derive(Drop)]
+#[derive(Clone, Copy)]
 pub struct AmDone {
     pub refusal: u32,
     pub state: AmDemodulator,

@@ -5,7 +5,7 @@ ghost use Rattle.am.specs.Step.{size_of, mean_after, am_step};
 use crate::AmDemodulator;
 
 // Struck, or the output, the mean and the high-pass to store.
-#[derive(Drop)]
+#[derive(Clone, Copy)]
 pub enum AmStep {
     Struck,
     Kept(f32, f32, f32),

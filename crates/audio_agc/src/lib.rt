@@ -23,7 +23,7 @@ ghost use Rattle.audio_agc.specs.State.{setting_met, state_met, answered};
 // signal is dead air, how many samples the gain hangs after it fell and how many of them are left, and the
 // signal's envelope.
 #[repr(C)]
-#[derive(Drop)]
+#[derive(Clone, Copy)]
 pub struct AudioAgc {
     pub gain: f32,
     pub target: f32,
@@ -38,7 +38,7 @@ pub struct AudioAgc {
 // What every call answers: the number of the refusal, 0 for none; the state for the next call, which is
 // the one handed in where this one is refused; and how many samples were struck.
 #[repr(C)]
-#[derive(Drop)]
+#[derive(Clone, Copy)]
 pub struct AudioAgcDone {
     pub refusal: u32,
     pub state: AudioAgc,

@@ -6,14 +6,14 @@ ghost use Rattle.audio_agc.specs.Moved.{Moves};
 use crate::{AudioAgc, level};
 
 // Struck, or the output and the new gain, envelope and hang counter.
-#[derive(Drop)]
+#[derive(Clone, Copy)]
 pub enum AudioStep {
     Struck,
     Kept(f32, f32, f32, usize),
 }
 
 // What a signal moves.
-#[derive(Drop)]
+#[derive(Clone, Copy)]
 pub struct Moved {
     pub gain: f32,
     pub hang: usize,

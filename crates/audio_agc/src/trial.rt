@@ -14,7 +14,7 @@ use crate::{AudioAgc, level, step};
 
 // The state after a block, right where each sample of it was kept and none lay in dead air. On the way there `kept`
 // tells of the dead air alone.
-#[derive(Drop)]
+#[derive(Clone, Copy)]
 pub struct Tried {
     pub state: AudioAgc,
     pub kept: bool,

@@ -20,7 +20,7 @@ ghost use Rattle.dc_remover.specs.State.{setting_met, state_met, made, answered}
 
 // The means of I and Q, and the weight of a new sample. Mono samples have I's mean.
 #[repr(C)]
-#[derive(Drop)]
+#[derive(Clone, Copy)]
 pub struct DcRemover {
     pub avg_i: f32,
     pub avg_q: f32,
@@ -30,7 +30,7 @@ pub struct DcRemover {
 // What every call answers: the number of the refusal, 0 for none; the state for the next call, which is
 // the one handed in where this one is refused; and how many samples or pairs were struck.
 #[repr(C)]
-#[derive(Drop)]
+#[derive(Clone, Copy)]
 pub struct DcRemoverDone {
     pub refusal: u32,
     pub state: DcRemover,

@@ -3,14 +3,14 @@ ghost use Rattle.std.specs.Prelude.{◌≡◌};
 ghost use Rattle.dc_remover.specs.Step.{mono_step, pair_step};
 
 // Struck, or the output and the new mean.
-#[derive(Drop)]
+#[derive(Clone, Copy)]
 pub enum MonoStep {
     Struck,
     Kept(f32, f32),
 }
 
 // Struck, or both outputs and both new means.
-#[derive(Drop)]
+#[derive(Clone, Copy)]
 pub enum PairStep {
     Struck,
     Kept(f32, f32, f32, f32),

@@ -13,7 +13,7 @@ mod settling;
 // What a decimator is besides its taps and its history, which the caller lends. `phase` samples come before the
 // next output.
 #[repr(C)]
-#[derive(Drop)]
+#[derive(Clone, Copy)]
 pub struct Decimator {
     pub factor: usize,
     pub phase: usize,
@@ -22,7 +22,7 @@ pub struct Decimator {
 // What a call answers: the number of its refusal, 0 for none, the decimator from there on, and how many outputs
 // were written.
 #[repr(C)]
-#[derive(Drop)]
+#[derive(Clone, Copy)]
 pub struct Decimated {
     pub refusal: u32,
     pub state: Decimator,

@@ -10,7 +10,7 @@ ghost use Rattle.std.specs.Prelude.{◌≤◌, length};
 use receiver::{BLOCK, Receiver, SOUND};
 
 // What goes from one turn to the next: the receiver, and a byte that waits for its pair.
-#[derive(Drop)]
+#[derive(Clone, Copy)]
 struct Place {
     going: bool,
     receiver: Receiver,

@@ -18,7 +18,7 @@ pub(crate) fn dot_from(acc: f32, xs: &[f32], ts: &[f32]) -> f32
 }
 
 // Four neighbouring outputs.
-#[derive(Drop)]
+#[derive(Clone, Copy)]
 pub(crate) struct Four {
     pub(crate) a: f32,
     pub(crate) b: f32,

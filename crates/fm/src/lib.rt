@@ -16,7 +16,7 @@ ghost use Rattle.fm.specs.Process.{put, followed, process_into};
 use step::FmStep;
 
 #[repr(C)]
-#[derive(Drop)]
+#[derive(Clone, Copy)]
 pub struct FmDemodulator {
     pub last_phase: f32,
     pub deemph_alpha: f32,
@@ -24,7 +24,7 @@ pub struct FmDemodulator {
 }
 
 #[repr(C)]
-#[derive(Drop)]
+#[derive(Clone, Copy)]
 pub struct FmDone {
     pub refusal: u32,
     pub state: FmDemodulator,

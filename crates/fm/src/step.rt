@@ -7,7 +7,7 @@ ghost use Rattle.fm.specs.Step.{wrapped, fm_step};
 use crate::FmDemodulator;
 
 // Struck, or the output, the angle and the de-emphasis to store.
-#[derive(Drop)]
+#[derive(Clone, Copy)]
 pub enum FmStep {
     Struck,
     Kept(f32, f32, f32),

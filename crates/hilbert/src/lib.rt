@@ -13,12 +13,12 @@ mod taps;
 pub use rules::taps_allowed;
 
 // All that a Hilbert filter is, its taps and its history, is lent by the caller.
-#[derive(Drop)]
+#[derive(Clone, Copy)]
 pub struct HilbertFilter;
 
 // What a call answers: the number of its refusal, 0 for none, and how many outputs were written.
 #[repr(C)]
-#[derive(Drop)]
+#[derive(Clone, Copy)]
 pub struct HilbertDone {
     pub refusal: u32,
     pub count: usize,

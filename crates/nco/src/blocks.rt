@@ -9,7 +9,7 @@ use crate::Nco;
 use crate::turn::{Turn, mixed};
 
 // Where a mixing stands: before the element k of the slice.
-#[derive(Drop)]
+#[derive(Clone, Copy)]
 pub struct Place {
     pub k: usize,
     pub turn: Turn,

@@ -14,7 +14,7 @@ ghost use Rattle.std.specs.Prelude.{◌≡◌};
 ghost use Rattle.nco.specs.Call.{made, retuned, mixed, cleared};
 
 #[repr(C)]
-#[derive(Drop)]
+#[derive(Clone, Copy)]
 pub struct Nco {
     pub phase: f64,
     pub phase_inc: f64,
@@ -23,7 +23,7 @@ pub struct Nco {
 }
 
 #[repr(C)]
-#[derive(Drop)]
+#[derive(Clone, Copy)]
 pub struct NcoDone {
     pub refusal: u32,
     pub state: Nco,

@@ -8,7 +8,7 @@ use crate::Nco;
 use number::eight::Eight;
 
 // The cosine and the sine that a pair is mixed by, and the phase.
-#[derive(Drop)]
+#[derive(Clone, Copy)]
 pub struct Turn {
     pub cosine: f64,
     pub sine: f64,
@@ -16,7 +16,7 @@ pub struct Turn {
 }
 
 // A mixed pair, before it is narrowed.
-#[derive(Drop)]
+#[derive(Clone, Copy)]
 pub(crate) struct WidePair {
     pub i: f64,
     pub q: f64,

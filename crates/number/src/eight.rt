@@ -5,7 +5,7 @@ ghost use Rattle.number.specs.Narrow.{narrowed};
 ghost use Rattle.number.specs.Eight.{is_near, no_eight, eight_of};
 
 // `near` says whether the eight are there.
-#[derive(Drop)]
+#[derive(Clone, Copy)]
 pub struct Eight {
     pub near: bool,
     pub y0: f32,

@@ -21,7 +21,7 @@ pub const BLOCK: usize = 8192;
 pub const SOUND: usize = 1640;
 
 // What a receiver is besides its taps and its histories, which the caller lends.
-#[derive(Drop)]
+#[derive(Clone, Copy)]
 pub struct Receiver {
     pub phase: usize,
     pub fm: FmDemodulator,
@@ -29,7 +29,7 @@ pub struct Receiver {
 
 // What a call answers: the number of its refusal, 0 for none, the receiver from there on, and how many bytes of sound
 // were written.
-#[derive(Drop)]
+#[derive(Clone, Copy)]
 pub struct Received {
     pub refusal: u32,
     pub state: Receiver,

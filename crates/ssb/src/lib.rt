@@ -16,7 +16,7 @@ mod run;
 
 // What a demodulator is besides its taps and its histories, which the caller lends.
 #[repr(C)]
-#[derive(Drop)]
+#[derive(Clone, Copy)]
 pub struct SsbDemodulator {
     pub is_usb: bool,
 }
@@ -24,7 +24,7 @@ pub struct SsbDemodulator {
 // What a call answers: the number of its refusal, 0 for none, the demodulator from there on, and how many outputs
 // were written.
 #[repr(C)]
-#[derive(Drop)]
+#[derive(Clone, Copy)]
 pub struct SsbDone {
     pub refusal: u32,
     pub state: SsbDemodulator,

@@ -4,7 +4,7 @@ use crate::case::{Case, after};
 use crate::slices;
 use crate::words::pattern;
 
-#[derive(Drop)]
+#[derive(Clone, Copy)]
 pub struct Answer {
     pub singles: [f32; 6],
     pub patterns: [u64; 6],

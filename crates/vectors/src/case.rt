@@ -4,7 +4,7 @@ use std::num::wrapping_add_usize;
 
 // Where the numbers stand that are handed in, singles and patterns, and those of the answer, with how many of these;
 // how many slices are lent, where their headers stand and their words begin; where the next case begins.
-#[derive(Drop)]
+#[derive(Clone, Copy)]
 pub struct Case {
     pub call: u32,
     pub singles: usize,
