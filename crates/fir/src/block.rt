@@ -14,7 +14,7 @@ pub(crate) fn block(
     m: usize,
 )
     requires few { Few factor (length taps.now) m × (0 < factor) × (factor ≤ 64) × (length x.now ≤ 128 * factor) × (128 * factor ≤ length z.old) }
-    requires taps_in_bounds { (m * factor + length taps.now ≤ length x.now + factor) × (j + m ≤ length output.old) }
+    requires within { (m * factor + length taps.now ≤ length x.now + factor) × (j + m ≤ length output.old) }
     ensures { output.new ≡ placed (dots_from taps.now x.now factor 0) output.old j m }
 {
     crate::planes::fill(z, x, factor);

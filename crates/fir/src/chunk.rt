@@ -17,7 +17,7 @@ pub(crate) fn run_planes(
     count: usize,
 )
     requires ready { Ready factor phase (length taps.now) (length history.now) (length input.now) count (length output.old) }
-    requires taps_len_bound { (length taps.now ≤ 16 * factor + 1) × (128 * factor ≤ length z.old) × (80 * factor ≤ length e.old) }
+    requires buffers { (length taps.now ≤ 16 * factor + 1) × (128 * factor ≤ length z.old) × (80 * factor ≤ length e.old) }
     ensures { output.new ≡ placed (dots_from taps.now (history.now ++ input.now) factor phase) output.old 0 count }
 {
     let mut at = phase;
@@ -45,7 +45,7 @@ fn chunk(
     m: usize,
 )
     requires row { Row factor (length taps.now) (length history.now) (length input.now) (length output.old) at j m × Few factor (length taps.now) m }
-    requires factor_in_bounds { (128 * factor ≤ length z.old) × (80 * factor ≤ length e.old) }
+    requires buffers { (128 * factor ≤ length z.old) × (80 * factor ≤ length e.old) }
     ensures { output.new ≡ placed (dots_from taps.now (history.now ++ input.now) factor at) output.old j m }
 {
     let n = crate::block::span(factor, m, taps.len());

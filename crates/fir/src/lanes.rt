@@ -19,8 +19,8 @@ pub(crate) fn turn(acc: &mut [f32; 32], z: &[f32], place: usize, tap: f32)
 // 32 outputs, from output q of the samples x that z holds in planes. `p` and `k` are the plane and the row of
 // tap i's sample of the first of them.
 pub(crate) fn sums(z: &[f32], x: &[f32], taps: &[f32], factor: usize, q: usize) -> [f32; 32]
-    requires factor_nonzero { (0 < factor) × (factor ≤ 64) × (q ≤ 64) × (length taps.now ≤ 16 * factor + 1) }
-    requires factor_in_bounds { (128 * factor ≤ length z.now) × Upto z.now x.now factor (factor * 128) }
+    requires sizes { (0 < factor) × (factor ≤ 64) × (q ≤ 64) × (length taps.now ≤ 16 * factor + 1) }
+    requires filled { (128 * factor ≤ length z.now) × Upto z.now x.now factor (factor * 128) }
     ensures { Summed taps.now x.now factor q result }
 {
     let mut acc: [f32; 32] = [0.0; 32];

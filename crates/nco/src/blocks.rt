@@ -19,8 +19,8 @@ impl Nco {
     // Answers the phase after the last pair, before the turn is taken off.
     pub(crate) fn run(self, iq: &mut [f32]) -> f64
         requires { is_even (length iq.old) ≡ true }
-        ensures value { result ≡ phase_after self iq.old }
-        ensures iq_after { iq.new ≡ mixed_outs self iq.old }
+        ensures phase { result ≡ phase_after self iq.old }
+        ensures mixed { iq.new ≡ mixed_outs self iq.old }
     {
         let mut k = 0;
         let mut turn = Turn {
@@ -40,8 +40,8 @@ impl Nco {
     // Four pairs at a time, to where fewer are left or one of their results is not near.
     fn fours(self, iq: &mut [f32], from: usize, first: Turn) -> Place
         requires { from ≤ length iq.old }
-        ensures from_le_k { (from ≤ result.k) × (result.k ≤ length iq.new) × (result.k % 2 ≡ from % 2) }
-        ensures turn_after { ahead self iq.new result.k (spin_of result.turn) ≡ ahead self iq.old from (spin_of first) }
+        ensures place { (from ≤ result.k) × (result.k ≤ length iq.new) × (result.k % 2 ≡ from % 2) }
+        ensures same_rest { ahead self iq.new result.k (spin_of result.turn) ≡ ahead self iq.old from (spin_of first) }
     {
         let mut k = from;
         let mut turn = first;
@@ -77,8 +77,8 @@ impl Nco {
     // Pair by pair, for a stretch: so that a block that is not near is looked at once in a while only.
     fn singles(self, iq: &mut [f32], from: usize, first: Turn) -> Place
         requires { (from ≤ length iq.old) × (from % 2 ≡ length iq.old % 2) }
-        ensures k_in_bounds { (result.k ≤ length iq.new) × (result.k % 2 ≡ from % 2) × (from ≤ result.k) × (from < length iq.new → from < result.k) }
-        ensures turn_after { ahead self iq.new result.k (spin_of result.turn) ≡ ahead self iq.old from (spin_of first) }
+        ensures place { (result.k ≤ length iq.new) × (result.k % 2 ≡ from % 2) × (from ≤ result.k) × (from < length iq.new → from < result.k) }
+        ensures same_rest { ahead self iq.new result.k (spin_of result.turn) ≡ ahead self iq.old from (spin_of first) }
     {
         let to = stretch(from, iq.len());
         let mut k = from;

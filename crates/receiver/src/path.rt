@@ -25,8 +25,8 @@ pub(crate) fn run(
 ) -> Receiver
     requires ready { Ready r (length taps.now) (length i_history.old) (length q_history.old) (length input.now) }
     requires room { Room r.phase (length input.now) (length output.old) (length samples.old) (length i.old) (length q.old) (length i_tenth.old) (length q_tenth.old) (length pairs.old) (length heard.old) }
-    ensures output_after { output.new ≡ sound taps.now (memory r i_history.old q_history.old) input.now }
-    ensures q_history_after { memory result i_history.new q_history.new ≡ after taps.now (memory r i_history.old q_history.old) input.now }
+    ensures outputs { output.new ≡ sound taps.now (memory r i_history.old q_history.old) input.now }
+    ensures memory_after { memory result i_history.new q_history.new ≡ after taps.now (memory r i_history.old q_history.old) input.now }
 {
     converter::convert(input, samples);
     halves::split(samples, i, q);

@@ -19,8 +19,8 @@ impl Receiver {
         input: &[u8],
         output: &mut [u8],
     ) -> Received
-        ensures output_after { (result, i_history.new, q_history.new, output.new) ≡ received self taps.now i_history.old q_history.old input.now output.old }
-        ensures count_in_bounds { result.count ≤ length output.new }
+        ensures answer { (result, i_history.new, q_history.new, output.new) ≡ received self taps.now i_history.old q_history.old input.now output.old }
+        ensures count { result.count ≤ length output.new }
     {
         let n = input.len();
         let phase = self.phase;
@@ -64,9 +64,9 @@ fn play(
     m: usize,
 ) -> Receiver
     requires ready { Ready r (length taps.now) (length i_history.old) (length q_history.old) (length input.now) }
-    requires m_value { (m ≡ heard_of r.phase (length input.now)) × (m ≤ 410) × (length output.old ≡ 4 * m) }
-    ensures output_after { output.new ≡ sound taps.now (memory r i_history.old q_history.old) input.now }
-    ensures q_history_after { memory result i_history.new q_history.new ≡ after taps.now (memory r i_history.old q_history.old) input.now }
+    requires size { (m ≡ heard_of r.phase (length input.now)) × (m ≤ 410) × (length output.old ≡ 4 * m) }
+    ensures outputs { output.new ≡ sound taps.now (memory r i_history.old q_history.old) input.now }
+    ensures memory_after { memory result i_history.new q_history.new ≡ after taps.now (memory r i_history.old q_history.old) input.now }
 {
     let n = input.len();
     let half = n / 2;

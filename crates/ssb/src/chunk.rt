@@ -14,9 +14,9 @@ pub(crate) fn chunk(
     output: &mut [f32],
 )
     requires ready { Ready (length taps.now) (length q_history.old) (length i_history.old) }
-    requires input_len { (length input.now ≡ length output.old + length output.old) × (length output.old ≤ 256) }
-    ensures output_after { output.new ≡ ssb_outs is_usb taps.now (histories q_history.old i_history.old) (pairs input.now) }
-    ensures i_history_after { histories q_history.new i_history.new ≡ ssb_end (histories q_history.old i_history.old) (pairs input.now) }
+    requires lengths { (length input.now ≡ length output.old + length output.old) × (length output.old ≤ 256) }
+    ensures outputs { output.new ≡ ssb_outs is_usb taps.now (histories q_history.old i_history.old) (pairs input.now) }
+    ensures histories_after { histories q_history.new i_history.new ≡ ssb_end (histories q_history.old i_history.old) (pairs input.now) }
 {
     let n = output.len();
     let mut i: [f32; 256] = [0.0; 256];
@@ -45,10 +45,10 @@ fn demodulate(
     output: &mut [f32],
 )
     requires ready { Ready (length taps.now) (length q_history.old) (length i_history.old) }
-    requires input_len { (length input.now ≡ length output.old + length output.old) × (length output.old ≤ 256) }
-    requires i_len { (length i.old ≡ length output.old) × (length q.old ≡ length output.old) }
-    ensures output_after { output.new ≡ ssb_outs is_usb taps.now (histories q_history.old i_history.old) (pairs input.now) }
-    ensures i_history_after { histories q_history.new i_history.new ≡ ssb_end (histories q_history.old i_history.old) (pairs input.now) }
+    requires lengths { (length input.now ≡ length output.old + length output.old) × (length output.old ≤ 256) }
+    requires halves { (length i.old ≡ length output.old) × (length q.old ≡ length output.old) }
+    ensures outputs { output.new ≡ ssb_outs is_usb taps.now (histories q_history.old i_history.old) (pairs input.now) }
+    ensures histories_after { histories q_history.new i_history.new ≡ ssb_end (histories q_history.old i_history.old) (pairs input.now) }
 {
     halves::split(input, i, q);
     hilbert::HilbertFilter::process_into(taps, q_history, q, output);

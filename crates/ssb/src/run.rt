@@ -14,8 +14,8 @@ pub(crate) fn run(
     output: &mut [f32],
 )
     requires { Ready (length taps.now) (length q_history.old) (length i_history.old) × Block (length input.now) (length output.old) }
-    ensures output_after { output.new ≡ over (ssb_outs is_usb taps.now (histories q_history.old i_history.old) (pairs input.now)) output.old }
-    ensures i_history_after { histories q_history.new i_history.new ≡ ssb_end (histories q_history.old i_history.old) (pairs input.now) }
+    ensures outputs { output.new ≡ over (ssb_outs is_usb taps.now (histories q_history.old i_history.old) (pairs input.now)) output.old }
+    ensures histories_after { histories q_history.new i_history.new ≡ ssb_end (histories q_history.old i_history.old) (pairs input.now) }
 {
     let mut a = 0;
     let mut j = 0;

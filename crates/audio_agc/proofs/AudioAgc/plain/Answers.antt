@@ -1,0 +1,28 @@
+-- `audio_agc::AudioAgc::plain` meets its contract: its loop is that of a stage over samples in place. Assumes nothing.
+use Prim.Native.Nat.{◌-◌}
+use mathlib.Core.Logic.{⊎_elim}
+use lib.ListN.{length}
+use lib.Ieee.{nan}
+use Rattle.stage.specs.Floats.{plus_zero}
+use Rattle.stage.proofs.LoopMono.{MonoLoop, mono_begins, mono_turns, mono_ends}
+use Rattle.stage.proofs.Gives.{told}
+use Rattle.audio_agc.specs.Process.{audio_means, audio_answer}
+use borrow.Author.Rules.{rules}
+use Rattle.audio_agc.proofs.AudioAgc.plain.Goals as goal
+
+pub loop-i-init : goal.loop-i-init
+loop-i-init c = mono_begins audio_answer plus_zero _ _
+
+pub loop-i-preserved : goal.loop-i-preserved
+loop-i-preserved c =
+    let l = c.loop-i in
+    let e = c.audio_step.ensures in
+    ⊎_elim
+    (λ w. rw (w.2, w.3, w.4) (mono_turns audio_answer plus_zero nan l.invariant c.loop-i-test.true (told (audio_means l.self) e w.1.given.1)))
+    (λ w. rw (w.3, w.4, w.5) (mono_turns audio_answer plus_zero nan l.invariant c.loop-i-test.true (told (audio_means l.self) e w.1.given.1)))
+    c.match-audio_step.branch
+
+pub returns : goal.returns
+returns c =
+    let e = mono_ends audio_answer plus_zero c.loop-i.invariant c.loop-i-test.false in
+    rw (c.answer.ensures, e.0, e.1, e.2)

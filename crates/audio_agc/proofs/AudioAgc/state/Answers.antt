@@ -1,0 +1,6 @@
+-- `audio_agc::AudioAgc::state` meets its contract: the test of finiteness is the definition's. Assumes nothing.
+use borrow.Author.Rules.{rules}
+use Rattle.audio_agc.proofs.AudioAgc.state.Goals as goal
+
+pub returns : goal.returns
+returns c = rw c.both_finite.ensures
