@@ -9,6 +9,7 @@ use Rattle.stage.proofs.Gives.{told}
 use Rattle.audio_agc.specs.Process.{audio_means, audio_answer}
 use borrow.Author.Rules.{rules}
 use Rattle.audio_agc.proofs.AudioAgc.plain.Goals as goal
+use Rattle.audio_agc.proofs.AudioAgc.plain.Goals.{in-Struck, in-Kept}
 
 pub loop-i-init : goal.loop-i-init
 loop-i-init c = mono_begins audio_answer plus_zero _ _
@@ -17,10 +18,10 @@ pub loop-i-preserved : goal.loop-i-preserved
 loop-i-preserved c =
     let l = c.loop-i in
     let e = c.audio_step.ensures in
-    ⊎_elim
-    (λ w. rw (w.2, w.3, w.4) (mono_turns audio_answer plus_zero nan l.invariant c.loop-i-test.true (told (audio_means l.self) e w.1.given.1)))
-    (λ w. rw (w.3, w.4, w.5) (mono_turns audio_answer plus_zero nan l.invariant c.loop-i-test.true (told (audio_means l.self) e w.1.given.1)))
-    c.match-audio_step.branch
+    elim c.match-audio_step.branch [
+      | in-Struck w ↦ rw (w.self-is, w.data-is, w.struck-is) (mono_turns audio_answer plus_zero nan l.invariant c.loop-i-test.true (told (audio_means l.self) e w.in-Struck.is))
+      | in-Kept w ↦ rw (w.self-is, w.data-is, w.struck-is) (mono_turns audio_answer plus_zero nan l.invariant c.loop-i-test.true (told (audio_means l.self) e w.in-Kept.is))
+    ]
 
 pub returns : goal.returns
 returns c =

@@ -23,11 +23,9 @@ loop-k-init c =
 pub loop-at-init : goal.loop-at-init
 loop-at-init c = (omega arith, c.loop-k.invariant.0, c.loop-k.invariant.1, λ s t. t)
 
-shared-slice-read-turn :
-    tie.Need-shared-slice-read-turn invariant-loop2 decreases-loop2 invariant-loop decreases-loop
-shared-slice-read-turn c =
-    let t = c.before in
-    let here = t.before.falls.ensures t.if1.true in
+pub bounds-data-k : goal.bounds-data-k
+bounds-data-k c =
+    let here = c.falls.ensures c.loop-at-test.true in
     search rules
 
 pub bounds-data-k-in-loop-at : goal.bounds-data-k-in-loop-at
@@ -55,10 +53,6 @@ loop-at-preserved c =
       λ s u. trying_turns s _ _ _ _ _ (omega arith) c.turn-at.ensures (l.invariant.3 s u),
     )
 
-shared-slice-read-turn-2 :
-    tie.Need-shared-slice-read-turn-2 invariant-loop2 decreases-loop2 invariant-loop decreases-loop
-shared-slice-read-turn-2 c = search rules
-
 pub loop-k-preserved-then-k-data : goal.loop-k-preserved-then-k-data
 loop-k-preserved-then-k-data c =
     let l = c.loop-at in
@@ -75,9 +69,9 @@ loop-k-preserved c =
 
 pub returns : goal.returns
 returns c all =
-    let l = c.loop in
+    let l = c.loop-k in
     let on = both l.at.kept (c.both_finite.result && c.all_finite.result) all in
     let fine = both c.both_finite.result c.all_finite.result on.1 in
     let state = both (finite l.at.state.gain) (finite l.at.state.envelope) (sym c.both_finite.ensures ∙ fine.0) in
-    let e = trial_ends audio_answer plus_zero Fine clamp_one (l.invariant.2 on.0).1 c.loop-test.false state (sym c.all_finite.ensures ∙ fine.1) in
+    let e = trial_ends audio_answer plus_zero Fine clamp_one (l.invariant.2 on.0).1 c.loop-k-test.false state (sym c.all_finite.ensures ∙ fine.1) in
     rw (← e.0, ← e.1, ← e.2)

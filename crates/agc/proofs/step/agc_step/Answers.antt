@@ -1,0 +1,12 @@
+-- `agc::step::agc_step` meets its contract: the tests decide the definition's. Assumes nothing.
+use Rattle.agc.specs.Step.{agc_step}
+use borrow.Author.Rules.{rules}
+use Rattle.agc.proofs.step.agc_step.Goals as goal
+
+pub returns-then-both_finite-finite_f32 : goal.returns-then-both_finite-finite_f32
+unfolding agc_step
+returns-then-both_finite-finite_f32 c = rw (← c.magnitude.ensures, ← c.gain_after-gain.ensures, ← c.both_finite.ensures, ← c.finite_f32.ensures, c.if-both_finite-finite_f32.true)
+
+pub returns-else-both_finite-finite_f32 : goal.returns-else-both_finite-finite_f32
+unfolding agc_step
+returns-else-both_finite-finite_f32 c = rw (← c.magnitude.ensures, ← c.gain_after-gain.ensures, ← c.both_finite.ensures, ← c.finite_f32.ensures, c.if-both_finite-finite_f32.false)
