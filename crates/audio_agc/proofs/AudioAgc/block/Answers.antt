@@ -4,7 +4,7 @@ use borrow.Author.Rules.{rules}
 use Rattle.audio_agc.proofs.AudioAgc.block.Goals as goal
 
 pub try_live-tried-requires : goal.try_live-tried-requires
-try_live-tried-requires c = (search rules, not-false _ c.if-not-self.false)
+try_live-tried-requires c = (search rules, c.if-not-self.false)
 
 pub returns : goal.returns
 returns c =

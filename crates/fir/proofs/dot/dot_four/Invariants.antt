@@ -1,0 +1,18 @@
+-- `fir::dot::dot_four` meets its contract: the invariant of `dot_from`, once for each sum. Assumes nothing.
+use mathlib.Core.Path.{◌≡◌, refl, sym, ◌∙◌}
+use mathlib.Core.List.{List}
+use Prim.Native.Nat.{ℕ, ◌-◌}
+use native.Mathlib.Omega.{arith}
+use borrow.Author.Rules.{rules}
+use lib.ListN.{length, drop}
+use lib.Ieee.{Float}
+use Rattle.fir.specs.Dot.{dot_from}
+use Rattle.stage.specs.Floats.{plus_zero}
+use Rattle.fir.proofs.dot.Products.{dot_step, dot_done}
+use Rattle.fir.proofs.dot.dot_four.Given as goal
+
+abbrev pub invariant-loop-i : goal.invariant-loop-i
+invariant-loop-i l = Carried l.xa l.ts l.a l.i × Carried l.xb l.ts l.b l.i × Carried l.xc l.ts l.c l.i × Carried l.xd l.ts l.d l.i
+
+abbrev pub decreases-loop-i : goal.decreases-loop-i
+decreases-loop-i l = length l.ts - l.i

@@ -1,0 +1,22 @@
+-- `fir::dot::dot_from` meets its contract. The invariant: the sum so far, carried on over what is left of both lists, is the whole sum. Assumes nothing.
+use mathlib.Core.Path.{◌≡◌, refl, sym, ◌∙◌}
+use Prim.Native.Nat.{◌-◌}
+use native.Mathlib.Omega.{arith}
+use borrow.Author.Rules.{rules}
+use lib.ListN.{length, drop}
+use Rattle.fir.specs.Dot.{dot_from}
+use Rattle.fir.proofs.dot.Products.{dot_step, dot_done}
+use Rattle.fir.proofs.dot.dot_from.Goals as goal
+
+pub loop-i-init : goal.loop-i-init
+loop-i-init c = refl
+
+pub loop-i-preserved : goal.loop-i-preserved
+loop-i-preserved c =
+    let a = c.args in
+    sym (dot_step c.loop-i.sum a.xs.now a.ts.now c.loop-i.i (omega arith) (omega arith)) ∙ c.loop-i.invariant
+
+pub returns : goal.returns
+returns c =
+    let a = c.args in
+    sym (dot_done c.loop-i.sum (drop c.loop-i.i a.xs.now) a.ts.now c.loop-i.i (omega arith)) ∙ c.loop-i.invariant

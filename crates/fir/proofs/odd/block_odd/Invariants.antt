@@ -1,0 +1,16 @@
+-- `fir::odd::block_odd` meets its contract. The loop's invariant: the first g outputs are written. Assumes nothing.
+use mathlib.Core.Path.{◌≡◌, refl, ◌∙◌}
+use Prim.Native.Nat.{◌-◌, ◌≤◌}
+use native.Mathlib.Nat.{zero-add}
+use native.Mathlib.Omega.{arith}
+use lib.ListN.{length}
+use Rattle.fir.specs.Written.{placed, element, odds_from}
+use Rattle.fir.proofs.Placed.{placed_group}
+use borrow.Author.Rules.{rules}
+use Rattle.fir.proofs.odd.block_odd.Given as goal
+
+abbrev pub invariant-loop-g : goal.invariant-loop-g
+invariant-loop-g l = (l.g ≤ l.m) × (length l.output ≡ length l.initial.output) × (l.output ≡ placed (odds_from l.taps l.x 0) l.initial.output l.j l.g)
+
+abbrev pub decreases-loop-g : goal.decreases-loop-g
+decreases-loop-g l = l.m - l.g

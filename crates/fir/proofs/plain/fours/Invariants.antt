@@ -1,0 +1,19 @@
+-- `fir::plain::fours` meets its contract. The loop's invariant: the first j outputs are written, and `at` is the place of the next. Assumes nothing.
+use mathlib.Core.Path.{◌≡◌, refl, ◌∙◌}
+use mathlib.Core.List.{◌++◌}
+use Prim.Native.Nat.{◌+◌, ◌-◌, ◌*◌, ◌≤◌, ◌<◌}
+use native.Mathlib.Nat.{add-mul}
+use native.Mathlib.Omega.{arith}
+use lib.ListN.{length}
+use Rattle.fir.specs.Written.{placed, dots_from, fourth}
+use Rattle.fir.proofs.Places.{place_in}
+use Rattle.fir.proofs.Placed.{placed_next, dots_on}
+use borrow.Author.Rules.{rules}
+use Rattle.fir.proofs.plain.fours.Given as goal
+
+abbrev pub invariant-loop-j : goal.invariant-loop-j
+invariant-loop-j l =
+    (l.j ≤ l.count) × (l.at ≡ l.phase + l.j * l.factor) × (length l.output ≡ length l.initial.output) × (l.output ≡ placed (dots_from l.taps (l.history ++ l.input) l.factor l.phase) l.initial.output 0 l.j)
+
+abbrev pub decreases-loop-j : goal.decreases-loop-j
+decreases-loop-j l = l.count - l.j

@@ -1,0 +1,15 @@
+-- `fir::planes::fill` meets its contract. The loop's invariant: the planes before p hold their samples. Assumes nothing.
+use mathlib.Core.Path.{◌≡◌, refl, ◌∙◌}
+use Prim.Native.Nat.{◌-◌, ◌*◌, ◌≤◌}
+use native.Mathlib.Omega.{arith}
+use lib.ListN.{length}
+use Rattle.fir.specs.Planes.{Upto}
+use Rattle.fir.proofs.planes.Copied.{upto_all}
+use borrow.Author.Rules.{rules}
+use Rattle.fir.proofs.planes.fill.Given as goal
+
+abbrev pub invariant-loop-p : goal.invariant-loop-p
+invariant-loop-p l = (l.p ≤ l.factor) × (length l.z ≡ length l.initial.z) × Upto l.z l.x l.factor (l.p * 128)
+
+abbrev pub decreases-loop-p : goal.decreases-loop-p
+decreases-loop-p l = l.factor - l.p
