@@ -15,7 +15,8 @@ unfolding placed
 loop-g-init c = (search rules, refl, refl)
 
 pub sums-acc-requires : goal.sums-acc-requires
-sums-acc-requires c = ((omega arith, omega arith, omega arith, omega arith), (omega (arith, c.fill.auto.z), c.fill.ensures))
+sums-acc-requires c =
+    record { sizes = (omega arith, omega arith, omega arith, omega arith); filled = (omega (arith, c.fill.auto.z), c.fill.ensures) }
 
 pub put-requires : goal.put-requires
 put-requires c = (omega arith, omega arith)

@@ -10,19 +10,6 @@ use Rattle.fir.proofs.Places.{row_inside}
 use Rattle.fir.proofs.Placed.{placed_dots}
 use borrow.Author.Rules.{rules}
 use Rattle.fir.proofs.chunk.run_planes.Goals as goal
-use Rattle.fir.proofs.chunk.run_planes.Goals.{After-least-m}
-
--- a turn gives some outputs, and the last one's place is in the input
-some : (c : After-least-m) → 0 < c.least-m.result
-some c = c.least-m.ensures.2 (omega arith) (omega arith)
-
-ends : (c : After-least-m)
-    → c.loop-j.at + c.least-m.result * c.args.factor < length c.args.input.now + c.args.factor
-ends c =
-    let a = c.args in
-    let l = c.loop-j in
-    row_inside a.factor a.phase (length a.input.now) a.count l.j c.least-m.result l.at
-    (omega arith) (omega arith) (some c) (omega arith) l.invariant.1
 
 pub loop-j-init : goal.loop-j-init
 unfolding placed
@@ -30,23 +17,24 @@ loop-j-init c = (search rules, omega (arith, zero-mul c.args.factor), refl, refl
 
 pub chunk-requires : goal.chunk-requires
 chunk-requires c =
-    let some = some c.before.before.before in
-    let p = c.requires in (
-      (
-        record { fit = p.0.fit; some = p.0.some; most = p.0.most; short = p.0.short; inside = ends c.before.before.before; roomy = omega (arith, p) },
-        record { near = p.1.0; any = some; few = omega arith },
-      ),
-      (omega (arith, p), omega (arith, p)),
-    )
+    let some : 0 < c.least-m.result = c.least-m.ensures.2 (omega arith) (omega arith) in
+    let p = c.requires.ready in
+    record {
+      row = (
+        record { fit = p.fit; some = p.some; most = p.most; short = p.short; inside = row_inside c.args.factor c.args.phase (length c.args.input.now) c.args.count c.loop-j.j c.least-m.result c.loop-j.at (omega arith) (omega arith) some (omega arith) c.loop-j.invariant.1; roomy = omega (arith, c.requires) },
+        record { near = c.requires.buffers.0; any = some; few = omega arith },
+      );
+      buffers = (omega (arith, c.requires), omega (arith, c.requires));
+    }
 
 pub overflow_mul-at : goal.overflow_mul-at
-overflow_mul-at c = let e = ends c.before.before.before.before.before.before.before.before.before.before in omega arith
+overflow_mul-at c = let some : 0 < c.least-m.result = c.least-m.ensures.2 (omega arith) (omega arith) in let e = row_inside c.args.factor c.args.phase (length c.args.input.now) c.args.count c.loop-j.j c.least-m.result c.loop-j.at (omega arith) (omega arith) some (omega arith) c.loop-j.invariant.1 in omega arith
 
 pub overflow_add-at : goal.overflow_add-at
-overflow_add-at c = let e = ends c.before.before.before.before.before.before.before.before.before.before in omega arith
+overflow_add-at c = let some : 0 < c.least-m.result = c.least-m.ensures.2 (omega arith) (omega arith) in let e = row_inside c.args.factor c.args.phase (length c.args.input.now) c.args.count c.loop-j.j c.least-m.result c.loop-j.at (omega arith) (omega arith) some (omega arith) c.loop-j.invariant.1 in omega arith
 
 pub loop-j-smaller : goal.loop-j-smaller
-loop-j-smaller c = let some = some c.before.before.before.before.before.before.before.before.before.before in omega arith
+loop-j-smaller c = let some : 0 < c.least-m.result = c.least-m.ensures.2 (omega arith) (omega arith) in omega arith
 
 pub loop-j-preserved : goal.loop-j-preserved
 loop-j-preserved c =

@@ -11,10 +11,6 @@ use Rattle.stage.specs.Floats.{plus_zero}
 use Rattle.fir.proofs.dot.Products.{dot_step, dot_done}
 use Rattle.fir.proofs.dot.dot_four.Goals as goal
 
--- the sum so far, carried on over what is left, is the whole sum
-abbrev Carried : List Float → List Float → Float → ℕ → Type 0
-Carried xs ts sum i = dot_from sum (drop i xs) (drop i ts) ≡ dot_from plus_zero xs ts
-
 pub loop-i-init : goal.loop-i-init
 loop-i-init c = (refl, refl, refl, refl)
 

@@ -11,6 +11,10 @@ use Rattle.stage.specs.Floats.{plus_zero}
 use Rattle.fir.proofs.dot.Products.{dot_step, dot_done}
 use Rattle.fir.proofs.dot.dot_four.Given as goal
 
+-- the sum so far, carried on over what is left, is the whole sum
+abbrev Carried : List Float → List Float → Float → ℕ → Type 0
+Carried xs ts sum i = dot_from sum (drop i xs) (drop i ts) ≡ dot_from plus_zero xs ts
+
 abbrev pub invariant-loop-i : goal.invariant-loop-i
 invariant-loop-i l = Carried l.xa l.ts l.a l.i × Carried l.xb l.ts l.b l.i × Carried l.xc l.ts l.c l.i × Carried l.xd l.ts l.d l.i
 

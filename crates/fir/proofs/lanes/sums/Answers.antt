@@ -1,6 +1,6 @@
 -- `fir::lanes::sums` meets its contract. The loop's invariant: each lane's sum so far, carried on over what is left of its window, is its output; p and k are the plane and the row of the next sample. Assumes nothing.
 use mathlib.Core.Path.{◌≡◌}
-use Prim.Native.Nat.{◌+◌, ◌-◌, ◌*◌, ◌≤◌, ◌<◌}
+use Prim.Native.Nat.{ℕ, ◌+◌, ◌-◌, ◌*◌, ◌≤◌, ◌<◌}
 use native.Mathlib.Omega.{arith}
 use lib.ListN.{length}
 use native.Mathlib.Nat.{add-mul, one-mul}
@@ -8,27 +8,12 @@ use Rattle.fir.proofs.lanes.Carried.{Lanes, lanes_start, lanes_step, lanes_done}
 use Rattle.fir.proofs.planes.Copied.{row_below}
 use borrow.Author.Rules.{rules}
 use Rattle.fir.proofs.lanes.sums.Goals as goal
-use Rattle.fir.proofs.lanes.sums.Goals.{After-turn, In-loop-i}
 
--- 32 lanes from row k on are in the planes
-row : (c : In-loop-i) → c.loop-i.k + 32 ≤ 128
-row c =
-    let a = c.args in
-    let below : c.loop-i.k < a.q + 17 = row_below c.loop-i.k a.factor (a.q + 17) (omega (arith, add-mul a.q 17 a.factor)) in
+-- 32 lanes from row k on are in the planes, where tap i's sample lies in plane p
+row : (k q p i n factor : ℕ) → k * factor + p ≡ q * factor + i → i < n → n ≤ 16 * factor + 1 → q ≤ 64 → p < factor → k + 32 ≤ 128
+row k q p i n factor e l m b h =
+    let below : k < q + 17 = row_below k factor (q + 17) (omega (arith, add-mul q 17 factor)) in
     omega arith
-
--- the lanes after a turn
-turned : (c : After-turn)
-    → let l = c.loop-i in
-    let a = c.args in
-    Lanes a.taps.now a.x.now a.factor a.q c.turn.new.acc (l.i + 1)
-turned c =
-    let l = c.loop-i in
-    let a = c.args in
-    let r = row c.before.before.before in
-    lanes_step a.z.now a.taps.now a.x.now a.factor a.q l.p l.k l.i
-    c.requires.1.1 l.invariant.1 r l.invariant.2 (omega arith)
-    l.acc c.turn.new.acc l.invariant.4 c.turn.ensures.1
 
 pub loop-i-init : goal.loop-i-init
 loop-i-init c =
@@ -36,27 +21,34 @@ loop-i-init c =
     (search rules, search rules, search rules, search rules, lanes_start a.taps.now a.x.now a.factor a.q)
 
 pub overflow_add-p : goal.overflow_add-p
-overflow_add-p c = let r = row c.before in omega arith
+overflow_add-p c = let r = row c.loop-i.k c.args.q c.loop-i.p c.loop-i.i (length c.args.taps.now) c.args.factor c.loop-i.invariant.2 (omega arith) (omega arith) (omega arith) c.loop-i.invariant.1 in omega arith
 
 pub turn-requires : goal.turn-requires
-turn-requires c = let r = row c.before.before in (omega arith, omega arith)
+turn-requires c = let r = row c.loop-i.k c.args.q c.loop-i.p c.loop-i.i (length c.args.taps.now) c.args.factor c.loop-i.invariant.2 (omega arith) (omega arith) (omega arith) c.loop-i.invariant.1 in (omega arith, omega arith)
 
 pub overflow_add-k : goal.overflow_add-k
-overflow_add-k c = let r = row c.before.before.before.before in omega arith
+overflow_add-k c = let r = row c.loop-i.k c.args.q c.loop-i.p c.loop-i.i (length c.args.taps.now) c.args.factor c.loop-i.invariant.2 (omega arith) (omega arith) (omega arith) c.loop-i.invariant.1 in omega arith
 
 pub loop-i-preserved-then-p-factor : goal.loop-i-preserved-then-p-factor
 loop-i-preserved-then-p-factor c =
     let l = c.loop-i in
-    let a = c.args in (
+    let a = c.args in
+    let r = row c.loop-i.k c.args.q c.loop-i.p c.loop-i.i (length c.args.taps.now) c.args.factor c.loop-i.invariant.2 (omega arith) (omega arith) (omega arith) c.loop-i.invariant.1 in (
       search rules,
       search rules,
       omega (arith, add-mul l.k 1 a.factor, one-mul a.factor),
       c.turn.ensures.0,
-      turned c.before,
+      lanes_step a.z.now a.taps.now a.x.now a.factor a.q l.p l.k l.i c.requires.filled.1 l.invariant.1 r l.invariant.2 (omega arith)
+          l.acc c.turn.new.acc l.invariant.4 c.turn.ensures.1,
     )
 
 pub loop-i-preserved : goal.loop-i-preserved
-loop-i-preserved c = (search rules, omega arith, omega arith, c.turn.ensures.0, turned c.before)
+loop-i-preserved c =
+    let l = c.loop-i in
+    let a = c.args in
+    let r = row c.loop-i.k c.args.q c.loop-i.p c.loop-i.i (length c.args.taps.now) c.args.factor c.loop-i.invariant.2 (omega arith) (omega arith) (omega arith) c.loop-i.invariant.1 in
+    (search rules, omega arith, omega arith, c.turn.ensures.0, lanes_step a.z.now a.taps.now a.x.now a.factor a.q l.p l.k l.i c.requires.filled.1 l.invariant.1 r l.invariant.2 (omega arith)
+          l.acc c.turn.new.acc l.invariant.4 c.turn.ensures.1)
 
 pub returns : goal.returns
 returns c =

@@ -16,9 +16,9 @@ returns c =
     let a = c.args in
     let t = a.taps.now in
     let x = a.history.now ++ a.input.now in
-    let e = c.gather.new.0 in
+    let e = c.gather.new.e in
     let n = a.m + length a.history.now in
-    let long : n ≤ length e = omega (arith, c.gather.auto.0, c.requires) in
+    let long : n ≤ length e = omega (arith, c.gather.auto.e, c.requires) in
     let fit : a.j + n ≤ length x = rw length-append (omega (arith, c.requires)) in
     c.block_odd.ensures
     ∙ placed_same (odds_from t e 0) (odds_from t x a.j) a.output.now a.j a.m

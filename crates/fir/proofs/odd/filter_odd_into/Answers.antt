@@ -18,38 +18,29 @@ use Rattle.fir.proofs.odd.Odd.{odd_output}
 use Rattle.fir.proofs.run.Fitting.{fits_odd_ready}
 use borrow.Author.Rules.{rules}
 use Rattle.fir.proofs.odd.filter_odd_into.Goals as goal
-use Rattle.fir.proofs.odd.filter_odd_into.Goals.{Else-not-fit}
 
 pub returns-then-not-fit : goal.returns-then-not-fit
 returns-then-not-fit c =
     let a = c.args in
     let unfit : fits_odd (length a.taps.now) (length a.history.now) (length a.input.now) (length a.output.now) ≡ false =
-    rw (← c.within.ensures) (not-true _ c.if-not-fit.true) in
+    rw (← c.within.ensures) c.if-not-fit.true in
     rw unfit
 
--- on lengths that fit
-fit : (c : Else-not-fit)
-    → let a = c.args in
-    fits_odd (length a.taps.now) (length a.history.now) (length a.input.now) (length a.output.now) ≡ true
-fit c = rw (← c.within.ensures) (not-false _ c.if-not-fit.false)
-
-ready : (c : Else-not-fit)
-    → let a = c.args in
-    OddReady (length a.taps.now) (length a.history.now) (length a.input.now) (length a.output.now)
-ready c =
-    let a = c.args in
-    fits_odd_ready (length a.taps.now) (length a.history.now) (length a.input.now) (length a.output.now) (fit c)
-
 pub run_odd-requires : goal.run_odd-requires
-run_odd-requires c = (ready c.before.before, search rules)
+run_odd-requires c =
+    let fit : fits_odd (length c.args.taps.now) (length c.args.history.now) (length c.args.input.now) (length c.args.output.now) ≡ true = rw (← c.within.ensures) c.if-not-fit.false in
+    let ready = fits_odd_ready (length c.args.taps.now) (length c.args.history.now) (length c.args.input.now) (length c.args.output.now) fit in
+    (ready, search rules)
 
 pub returns : goal.returns
 returns c =
+    let fit : fits_odd (length c.args.taps.now) (length c.args.history.now) (length c.args.input.now) (length c.args.output.now) ≡ true = rw (← c.within.ensures) c.if-not-fit.false in
+    let ready = fits_odd_ready (length c.args.taps.now) (length c.args.history.now) (length c.args.input.now) (length c.args.output.now) fit in
     let a = c.args in
     let t = a.taps.now in
     let x = a.history.now ++ a.input.now in
     let n = length a.input.now in
-    rw (fit c.before.before.before.before.before.before, c.run_odd.ensures, count_of_each n)
+    rw (fit, c.run_odd.ensures, count_of_each n)
     (ap {B = ℕ × List Float} (λ l. (n, l))
-    (placed_outputs (odd_taps t) 0 x a.output.now (odds_from t x 0) n (ready c.before.before.before.before.before.before).roomy
+    (placed_outputs (odd_taps t) 0 x a.output.now (odds_from t x 0) n ready.roomy
     (λ j. odd_output t x (0 + j) ∙ ap (λ (i : ℕ). output_at (odd_taps t) x (0 + i)) (sym (mul-one j)))))

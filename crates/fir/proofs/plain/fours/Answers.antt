@@ -10,27 +10,16 @@ use Rattle.fir.proofs.Places.{place_in}
 use Rattle.fir.proofs.Placed.{placed_next, dots_on}
 use borrow.Author.Rules.{rules}
 use Rattle.fir.proofs.plain.fours.Goals as goal
-use Rattle.fir.proofs.plain.fours.Goals.{In-loop-j}
-
--- four outputs on, the last of them lies in the block
-inside : (c : In-loop-j)
-    → let a = c.args in
-    c.loop-j.at + 3 * a.factor < length a.input.now
-inside c =
-    let a = c.args in
-    let l = c.loop-j in
-    place_in a.factor a.phase (length a.input.now) a.count (l.j + 3) (l.at + 3 * a.factor) c.requires.some c.requires.is (omega arith)
-    (omega (arith, add-mul l.j 3 a.factor))
 
 pub loop-j-init : goal.loop-j-init
 unfolding placed
 loop-j-init c = (search rules, omega arith, refl, refl)
 
 pub four_at-f-requires : goal.four_at-f-requires
-four_at-f-requires c = (omega arith, omega arith, inside c)
+four_at-f-requires c = (omega arith, omega arith, place_in c.args.factor c.args.phase (length c.args.input.now) c.args.count (c.loop-j.j + 3) (c.loop-j.at + 3 * c.args.factor) c.requires.some c.requires.is (omega arith) (omega (arith, add-mul c.loop-j.j 3 c.args.factor)))
 
 pub overflow_add-at : goal.overflow_add-at
-overflow_add-at c = let i = inside c.before.before.before.before.before in omega (arith, c.requires)
+overflow_add-at c = let i = place_in c.args.factor c.args.phase (length c.args.input.now) c.args.count (c.loop-j.j + 3) (c.loop-j.at + 3 * c.args.factor) c.requires.some c.requires.is (omega arith) (omega (arith, add-mul c.loop-j.j 3 c.args.factor)) in omega (arith, c.requires)
 
 pub loop-j-preserved : goal.loop-j-preserved
 loop-j-preserved c =

@@ -10,24 +10,16 @@ use Rattle.fir.proofs.Places.{row_place}
 use Rattle.fir.proofs.Placed.{placed_push}
 use borrow.Author.Rules.{rules}
 use Rattle.fir.proofs.plain.ones.Goals as goal
-use Rattle.fir.proofs.plain.ones.Goals.{In-loop-l}
-
--- the next output lies in the block
-inside : (c : In-loop-l) → c.loop-l.a < length c.args.input.now
-inside c =
-    let a = c.args in
-    let l = c.loop-l in
-    rw l.invariant.1 (row_place a.factor a.at l.l a.m (length a.input.now) c.loop-l-test.true c.requires.inside)
 
 pub loop-l-init : goal.loop-l-init
 unfolding placed
 loop-l-init c = (search rules, omega arith, refl, refl)
 
 pub output_at-requires : goal.output_at-requires
-output_at-requires c = (omega arith, inside c)
+output_at-requires c = (omega arith, rw c.loop-l.invariant.1 (row_place c.args.factor c.args.at c.loop-l.l c.args.m (length c.args.input.now) c.loop-l-test.true c.requires.inside))
 
 pub overflow_add-a : goal.overflow_add-a
-overflow_add-a c = let i = inside c.before in omega arith
+overflow_add-a c = let i : c.loop-l.a < length c.args.input.now = rw c.loop-l.invariant.1 (row_place c.args.factor c.args.at c.loop-l.l c.args.m (length c.args.input.now) c.loop-l-test.true c.requires.inside) in omega arith
 
 pub loop-l-preserved : goal.loop-l-preserved
 loop-l-preserved c =

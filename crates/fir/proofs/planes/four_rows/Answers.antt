@@ -17,4 +17,4 @@ bounds-z-place-4 c = simp length-set (omega arith)
 pub returns : goal.returns
 returns c =
     let a = c.args in
-    upto_four a.z.now a.x.now a.factor a.p a.k a.s c.requires.1 (omega arith) (omega arith) (omega arith)
+    upto_four a.z.now a.x.now a.factor a.p a.k a.s c.requires.upto (omega arith) (omega arith) (omega arith)

@@ -8,13 +8,6 @@ use Rattle.fir.specs.Planes.{Upto}
 use Rattle.fir.proofs.planes.Copied.{row_below}
 use borrow.Author.Rules.{rules}
 use Rattle.fir.proofs.planes.fours.Goals as goal
-use Rattle.fir.proofs.planes.fours.Goals.{In-loop-s}
-
--- four rows that have a sample are among the 128
-row : (c : In-loop-s) → c.loop-s.k + 3 < 128
-row c =
-    let a = c.args in
-    row_below (c.loop-s.k + 3) a.factor 128 (omega (arith, add-mul c.loop-s.k 3 a.factor))
 
 pub loop-s-init : goal.loop-s-init
 loop-s-init c =
@@ -23,11 +16,11 @@ loop-s-init c =
 pub four_rows-requires : goal.four_rows-requires
 four_rows-requires c =
     let l = c.loop-s in
-    let r = row c.before in
-    ((omega arith, l.invariant.0, r, omega arith), l.invariant.3)
+    let r : c.loop-s.k + 3 < 128 = row_below (c.loop-s.k + 3) c.args.factor 128 (omega (arith, add-mul c.loop-s.k 3 c.args.factor)) in
+    record { plane = (omega arith, l.invariant.0, r, omega arith); upto = l.invariant.3 }
 
 pub overflow_add-k : goal.overflow_add-k
-overflow_add-k c = let r = row c.before.before.before.before in omega arith
+overflow_add-k c = let r : c.loop-s.k + 3 < 128 = row_below (c.loop-s.k + 3) c.args.factor 128 (omega (arith, add-mul c.loop-s.k 3 c.args.factor)) in omega arith
 
 pub loop-s-preserved : goal.loop-s-preserved
 loop-s-preserved c =

@@ -8,34 +8,27 @@ use Rattle.fir.specs.Planes.{Upto}
 use Rattle.fir.proofs.planes.Copied.{row_below, upto_set, upto_end}
 use borrow.Author.Rules.{rules}
 use Rattle.fir.proofs.planes.ones.Goals as goal
-use Rattle.fir.proofs.planes.ones.Goals.{In-loop-s}
-
--- a row that has a sample is among the 128
-row : (c : In-loop-s) → c.loop-s.k < 128
-row c =
-    let a = c.args in
-    row_below c.loop-s.k a.factor 128 (omega arith)
 
 pub loop-s-init : goal.loop-s-init
 loop-s-init c = (refl, c.requires.1, refl, c.requires.2)
 
 pub overflow_add-z : goal.overflow_add-z
-overflow_add-z c = let r = row c.before in omega arith
+overflow_add-z c = let r : c.loop-s.k < 128 = row_below c.loop-s.k c.args.factor 128 (omega arith) in omega arith
 
 pub offset_bounds-z-p : goal.offset_bounds-z-p
-offset_bounds-z-p c = let r = row c.before in omega arith
+offset_bounds-z-p c = let r : c.loop-s.k < 128 = row_below c.loop-s.k c.args.factor 128 (omega arith) in omega arith
 
 pub bounds-z-p : goal.bounds-z-p
-bounds-z-p c = let r = row c.before in omega arith
+bounds-z-p c = let r : c.loop-s.k < 128 = row_below c.loop-s.k c.args.factor 128 (omega arith) in omega arith
 
 pub overflow_add-k : goal.overflow_add-k
-overflow_add-k c = let r = row c.before in omega arith
+overflow_add-k c = let r : c.loop-s.k < 128 = row_below c.loop-s.k c.args.factor 128 (omega arith) in omega arith
 
 pub loop-s-preserved : goal.loop-s-preserved
 loop-s-preserved c =
     let l = c.loop-s in
     let a = c.args in
-    let r = row c.before in (
+    let r : c.loop-s.k < 128 = row_below c.loop-s.k c.args.factor 128 (omega arith) in (
       omega (arith, add-mul l.k 1 a.factor, one-mul a.factor),
       omega arith,
       simp length-set l.invariant.2,

@@ -16,39 +16,29 @@ use Rattle.fir.proofs.Placed.{placed_outputs}
 use Rattle.fir.proofs.run.Fitting.{fits_ready}
 use borrow.Author.Rules.{rules}
 use Rattle.fir.proofs.run.filter_into.Goals as goal
-use Rattle.fir.proofs.run.filter_into.Goals.{Else-not-fit}
 
 pub returns-then-not-fit : goal.returns-then-not-fit
 returns-then-not-fit c =
     let a = c.args in
     let unfit : fits a.factor a.phase (length a.taps.now) (length a.history.now) (length a.input.now) (length a.output.now) ≡ false =
-    rw (← c.count-count.ensures, ← c.within.ensures) (not-true _ c.if-not-fit.true) in
+    rw (← c.count-count.ensures, ← c.within.ensures) c.if-not-fit.true in
     rw unfit
 
--- on lengths that fit
-fit : (c : Else-not-fit)
-    → let a = c.args in
-    fits a.factor a.phase (length a.taps.now) (length a.history.now) (length a.input.now) (length a.output.now) ≡ true
-fit c = rw (← c.count-count.ensures, ← c.within.ensures) (not-false _ c.if-not-fit.false)
-
-ready : (c : Else-not-fit)
-    → let a = c.args in
-    Ready a.factor a.phase (length a.taps.now) (length a.history.now) (length a.input.now)
-    (count_of a.factor a.phase (length a.input.now)) (length a.output.now)
-ready c =
-    let a = c.args in
-    fits_ready a.factor a.phase (length a.taps.now) (length a.history.now) (length a.input.now) (length a.output.now) (fit c)
-
 pub run-requires : goal.run-requires
-run-requires c = rw c.count-count.ensures (ready c.before)
+run-requires c =
+    let fit : fits c.args.factor c.args.phase (length c.args.taps.now) (length c.args.history.now) (length c.args.input.now) (length c.args.output.now) ≡ true = rw (← c.count-count.ensures, ← c.within.ensures) c.if-not-fit.false in
+    let ready = fits_ready c.args.factor c.args.phase (length c.args.taps.now) (length c.args.history.now) (length c.args.input.now) (length c.args.output.now) fit in
+    rw c.count-count.ensures ready
 
 pub returns : goal.returns
 returns c =
+    let fit : fits c.args.factor c.args.phase (length c.args.taps.now) (length c.args.history.now) (length c.args.input.now) (length c.args.output.now) ≡ true = rw (← c.count-count.ensures, ← c.within.ensures) c.if-not-fit.false in
+    let ready = fits_ready c.args.factor c.args.phase (length c.args.taps.now) (length c.args.history.now) (length c.args.input.now) (length c.args.output.now) fit in
     let a = c.args in
     let t = a.taps.now in
     let x = a.history.now ++ a.input.now in
     let n = count_of a.factor a.phase (length a.input.now) in
-    rw (fit c.before.before.before.before, c.run.ensures, c.count-count.ensures)
+    rw (fit, c.run.ensures, c.count-count.ensures)
     (ap {B = ℕ × List Float} (λ l. (n, l))
-    (placed_outputs (every_tap a.factor t) a.phase x a.output.now (dots_from t x a.factor a.phase) n (ready c.before.before.before.before).roomy
+    (placed_outputs (every_tap a.factor t) a.phase x a.output.now (dots_from t x a.factor a.phase) n ready.roomy
     (λ j. dot_output a.factor t x (a.phase + j * a.factor))))
