@@ -1,0 +1,7 @@
+-- `converter::refusal` meets its contract: each flag is the definition's. Assumes nothing.
+use borrow.Author.Rules.{rules}
+use Rattle.converter.proofs.refusal.Goals as goal
+
+pub returns : goal.returns
+returns c =
+    rw (c.refusal.ensures, c.even.ensures, c.within.ensures)
