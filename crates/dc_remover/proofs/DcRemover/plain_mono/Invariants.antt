@@ -1,0 +1,17 @@
+-- `dc_remover::DcRemover::plain_mono` meets its contract: its loop is that of a stage over samples in place. Assumes nothing.
+use Prim.Native.Nat.{◌-◌}
+use mathlib.Core.Logic.{⊎_elim}
+use lib.ListN.{length}
+use lib.Ieee.{nan}
+use Rattle.stage.specs.Floats.{plus_zero}
+use Rattle.stage.proofs.LoopMono.{MonoLoop, mono_begins, mono_turns, mono_ends}
+use Rattle.stage.proofs.Gives.{told}
+use Rattle.dc_remover.specs.Step.{mono_means, mono_answer}
+use borrow.Author.Rules.{rules}
+use Rattle.dc_remover.proofs.DcRemover.plain_mono.Given as goal
+
+abbrev pub invariant-loop-i : goal.invariant-loop-i
+invariant-loop-i l = MonoLoop mono_answer plus_zero l.initial.self l.initial.data l.data l.self l.struck l.i
+
+abbrev pub decreases-loop-i : goal.decreases-loop-i
+decreases-loop-i l = length l.initial.data - l.i

@@ -1,0 +1,18 @@
+-- `dc_remover::DcRemover::plain_pairs` meets its contract: its loop is that of a stage over interleaved pairs in place. Assumes nothing.
+use Prim.Native.Nat.{◌-◌}
+use native.Mathlib.Omega.{arith}
+use mathlib.Core.Logic.{⊎_elim}
+use lib.ListN.{length, length-set}
+use lib.Ieee.{nan}
+use Rattle.stage.specs.Floats.{plus_zero}
+use Rattle.stage.proofs.LoopInterleaved.{InterleavedLoop, interleaved_begins, interleaved_turns, interleaved_ends}
+use Rattle.stage.proofs.Gives.{told}
+use Rattle.dc_remover.specs.Step.{pair_means, pair_answer}
+use borrow.Author.Rules.{rules}
+use Rattle.dc_remover.proofs.DcRemover.plain_pairs.Given as goal
+
+abbrev pub invariant-loop-i : goal.invariant-loop-i
+invariant-loop-i l = InterleavedLoop pair_answer (plus_zero, plus_zero) l.initial.self l.initial.data l.data l.self l.struck l.i
+
+abbrev pub decreases-loop-i : goal.decreases-loop-i
+decreases-loop-i l = length l.initial.data - l.i

@@ -1,0 +1,17 @@
+-- `dc_remover::DcRemover::try_mono` meets its contract: its loop is that of a trial over samples. Assumes nothing.
+use Prim.Native.Nat.{◌-◌}
+use mathlib.Core.List.{map-id}
+use lib.ListN.{length, length-set}
+use lib.Ieee.{nan}
+use Rattle.stage.specs.Floats.{plus_zero}
+use Rattle.stage.proofs.Trial.{MonoTrial, trial_begins, trial_turns, trial_ends}
+use Rattle.dc_remover.specs.Step.{mono_answer}
+use Rattle.dc_remover.proofs.Tried.{mono_kept}
+use borrow.Author.Rules.{rules}
+use Rattle.dc_remover.proofs.DcRemover.try_mono.Given as goal
+
+abbrev pub invariant-loop-k : goal.invariant-loop-k
+invariant-loop-k l = MonoTrial mono_answer plus_zero (λ s. Unit) (λ x. x) l.initial.self l.data l.z l.self l.k
+
+abbrev pub decreases-loop-k : goal.decreases-loop-k
+decreases-loop-k l = length l.data - l.k
