@@ -9,7 +9,6 @@ use lib.Seq.{take_all, get_or-set_other}
 use lib.Ieee.{Float, nan}
 use Rattle.number.specs.Narrow.{narrowed}
 use Rattle.number.proofs.Pack.{split}
-use Rattle.stage.specs.Layout.{pairs}
 use Rattle.stage.proofs.Layouts.{pairs_drop}
 use Rattle.stage.proofs.LoopInterleaved.{take_pair, drop_pair}
 use Rattle.nco.specs.declared.Nco.{Nco}

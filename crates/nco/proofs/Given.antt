@@ -9,7 +9,6 @@ use Rattle.angle.specs.Turn.{pulled}
 use Rattle.stage.specs.Length.{is_within, is_even}
 use Rattle.stage.proofs.Refusals.{met, run_gives, refused_gives}
 use Rattle.nco.specs.declared.Nco.{Nco}
-use Rattle.nco.specs.declared.NcoDone.{NcoDone}
 use Rattle.nco.specs.Call.{given, at, mixed}
 use Rattle.nco.specs.Mix.{mixed_outs, phase_after}
 use Rattle.nco.specs.Rules.{increment_allowed, at_rest, mixing_refusal}

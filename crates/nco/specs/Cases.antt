@@ -1,12 +1,12 @@
 -- Worked values of the oscillator, by computation: half the rate at two rates, a still oscillator, the turn that an empty call takes off, and who is refused. Assumes nothing.
-use Rattle.std.specs.Prelude.{ℕ, ◌≡◌, refl, true, false, List, [], ◌∷◌, Float}
+use Rattle.std.specs.Prelude.{ℕ, ◌≡◌, refl, true, false, [], ◌∷◌, Float}
 use Rattle.std.specs.Float.{nan, inf, binary32, binary64}
 use Rattle.std.specs.Float.Ieee.{of_bits, add, sub, mul, div, rem, lt, le, eq, neg, of_int}
 use Rattle.number.specs.Narrow.{narrowed}
 use Rattle.angle.specs.Numbers as wide
 use Rattle.angle.specs.Turn.{sined, cosined, sine_of, cosine_of, reduced, pulled, nested, step}
 use Rattle.nco.specs.declared.Nco.{Nco}
-use Rattle.nco.specs.Mix.{increment_of, tuned_at, mixed_at, spun, spin, mixed_outs, phase_after}
+use Rattle.nco.specs.Mix.{increment_of, mixed_at, spun, spin, mixed_outs, phase_after}
 use Rattle.nco.specs.Rules.{tuning_refusal, mixing_refusal, resting_refusal}
 use Rattle.nco.specs.Call.{nought, zeros, mixed}
 

@@ -5,6 +5,8 @@
 // the phase at its end, also of an empty call; so cutting a stream changes its bits. NaN and infinities
 // pass. `specs/Mix.antt` has the definitions, `specs/Rules.antt` the rules on settings and state,
 // `specs/Call.antt` what each call gives. No public function here has a `requires`.
+#![tactic(auto)]
+
 mod blocks;
 mod rules;
 mod tune;
