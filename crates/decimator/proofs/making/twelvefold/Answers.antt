@@ -5,8 +5,7 @@ use mathlib.Core.Path.{◌≡◌, refl, sym}
 use mathlib.Core.Bool.{Bool, true, false, ◌&&◌}
 use lib.Dec.{eqb}
 use borrow.Author.Tests.{eqb-true, eqb-false, eq-eqb, ne_eqb}
-use Rattle.decimator.proofs.making.twelvefold.Statement.{statement}
-use Rattle.decimator.proofs.making.twelvefold.Tie as tie
+use Rattle.decimator.proofs.making.twelvefold.Goals as goal
 
 -- by what each test says
 tests : (t f : ℕ) (a b : Bool) → eqb (t % 12) 1 ≡ a → eqb (t / 12) f ≡ b → (a && b) ≡ eqb t (12 * f + 1)
@@ -24,8 +23,5 @@ tests t f false b p q =
 twelve : (t f : ℕ) → (eqb (t % 12) 1 && eqb (t / 12) f) ≡ eqb t (12 * f + 1)
 twelve t f = tests t f (eqb (t % 12) 1) (eqb (t / 12) f) refl refl
 
-returns : tie.Need-returns
+pub returns : goal.returns
 returns c = twelve c.args.taps c.args.factor
-
-pub twelvefold-spec : {M : Type 1} → statement M
-twelvefold-spec = tie.close (tie.spec returns)
