@@ -1,5 +1,5 @@
 -- A stream handed to an SSB demodulator call by call, its taps the same throughout: the terms of the theorems on streams. Definitions only.
-use Rattle.std.specs.Prelude.{ℕ, Bool, List, take, replicate, Float}
+use Rattle.std.specs.Prelude.{Bool, List, take, replicate, Float}
 use Rattle.stage.specs.Floats.{plus_zero}
 use Rattle.stage.specs.Layout.{pairs}
 use Rattle.stage.specs.InTurn.{Given, inputs, Accepted, call_outs, call_end}
