@@ -47,7 +47,8 @@ def files(*endings):
 
 def made_here(path):
     """Whether the file declares names of ours: not one that answers the goals of a function."""
-    return path.endswith('.antt') and not path.endswith(('/Proof.antt', '/Answers.antt', '/Invariants.antt'))
+    answers = '/proofs/' in path and path.endswith(('/Proof.antt', '/Answers.antt', '/Invariants.antt'))
+    return path.endswith('.antt') and not answers
 
 
 def snake(name):
