@@ -1,5 +1,5 @@
 -- Worked values of sine, cosine and arctangent, by computation, as bits. Assumes nothing.
-use Rattle.std.specs.Prelude.{◌≡◌, refl, ℕ, ◌+◌, true, false}
+use Rattle.std.specs.Prelude.{◌≡◌, refl, ℕ, true, false}
 use Rattle.std.specs.Float.{nan, inf, binary32, binary64}
 use Rattle.std.specs.Float.Ieee.{of_bits, to_bits, add, sub, mul, div, rem, lt, eq, neg, is_nan, of_int}
 use Rattle.number.specs.Kinds.{absolute, negative}

@@ -5,6 +5,8 @@
 // definitions stand in `specs/Turn.antt` (reduction, sine, cosine) and `specs/Arc.antt` (arctangent),
 // worked values in `specs/Cases.antt`. `flat` has the angle of a slope, of which `arc` makes the arctangent, and
 // `lanes` works out four arctangents side by side. No public function here has a `requires`.
+#![tactic(auto)]
+
 pub mod arc;
 mod flat;
 pub mod lanes;

@@ -1,11 +1,10 @@
 -- What a trial of the audio gain control rests on: a signal's step whose output, gain and envelope are finite keeps its sample, and the gain and the
 -- envelope before it were finite. Assumes nothing.
-use Prim.Native.Nat.{ℕ, ◌+◌, ◌*◌, ◌<◌, ◌≤◌}
+use Prim.Native.Nat.{ℕ, ◌*◌, ◌<◌}
 use native.Mathlib.Omega.{arith}
-use mathlib.Core.Path.{◌≡◌, refl, sym, ap, ◌∙◌}
-use mathlib.Core.Bool.{Bool, true, false, cond, ◌&&◌, true≢false, and-false}
-use lib.Dec.{ltb}
-use lib.Ieee.{Float, nan, inf, fin, binary32, add, sub, mul, neg, lt, below, up, down, of_bits}
+use mathlib.Core.Path.{◌≡◌, refl, sym, ◌∙◌}
+use mathlib.Core.Bool.{Bool, true, false, cond, true≢false, and-false}
+use lib.Ieee.{Float, nan, inf, fin, binary32, sub, mul, neg, lt, below, up, down, of_bits}
 use lib.Ieee.Scale.{finite}
 use borrow.Author.Tests.{ltb-true, le-ltb}
 use Rattle.number.specs.Kinds.{absolute}
@@ -14,7 +13,7 @@ use Rattle.stage.specs.Run.{kept}
 use Rattle.stage.proofs.NotFinite.{add_not_finite, mul_not_finite_right, was_finite}
 use Rattle.audio_agc.specs.declared.AudioAgc.{AudioAgc}
 use Rattle.audio_agc.specs.Level.{at_most, clamp_of, envelope_after}
-use Rattle.audio_agc.specs.Step.{clamp_one, keep_step, loud_step, step_at, audio_step}
+use Rattle.audio_agc.specs.Step.{clamp_one, keep_step, loud_step, audio_step}
 use Rattle.audio_agc.specs.Moved.{Moves}
 use Rattle.audio_agc.specs.Process.{audio_answer}
 

@@ -1,7 +1,7 @@
 -- The loop of a trial: as long as its flag stands, each sample is worked as the run works it. Assumes nothing.
 use Prim.Native.Nat.{ℕ, ◌+◌, ◌<◌}
 use mathlib.Core.Path.{◌≡◌, sym, ap, ◌∙◌}
-use mathlib.Core.Bool.{true, ◌&&◌}
+use mathlib.Core.Bool.{true}
 use mathlib.Core.List.{List}
 use lib.ListN.{length, get_or, set}
 use lib.Ieee.{Float, nan, binary32, mul, lt}

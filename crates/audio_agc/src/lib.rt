@@ -9,6 +9,8 @@
 // nothing else, that a burst of bad samples leaves no trace, and that no call makes a state that a later one
 // refuses. A block is tried without a test at each sample (`trial.rt`; `specs/Moved.antt` is for that), and worked
 // in the plain form where a sample of it is struck or lies in dead air. No public function here has a `requires`.
+#![tactic(auto)]
+
 mod level;
 mod made;
 mod process;

@@ -2,12 +2,12 @@
 use Prim.Native.Nat.{ℕ, ◌+◌, ◌-◌, ◌*◌, ◌≤◌}
 use native.Mathlib.Nat.{zero-add, mul-one}
 use native.Mathlib.Omega.{arith}
-use mathlib.Core.Path.{◌≡◌, refl, sym, ap, ◌∙◌}
+use mathlib.Core.Path.{◌≡◌, ap, ◌∙◌}
 use mathlib.Core.List.{List, ◌++◌}
 use lib.ListN.{length, get_or}
 use Rattle.stage.proofs.InTurn.{Cuttable}
 use Rattle.stage.proofs.Filling.{length_counted}
-use Rattle.fir.specs.Filter.{Filter, Memory, next_phase, kept, outputs, filter_outs, filter_end}
+use Rattle.fir.specs.Filter.{Filter, Memory, kept, outputs, filter_outs, filter_end}
 use Rattle.fir.specs.Each.{each_outs}
 use Rattle.fir.specs.Damage.{DifferWithin, Unseen}
 use Rattle.fir.proofs.Counting.{count_of_each, phase_of_each}

@@ -9,6 +9,8 @@
 // then 32 outputs are summed at once, each in index order, so that each is to the bit what one sum after another
 // gives. No public function here has a `requires`: a call tests lengths once and does nothing where they do not
 // fit. The functions inside have one, and cite `specs/Written.antt`, `Planes.antt` and `Ready.antt`.
+#![tactic(auto)]
+
 mod block;
 mod chunk;
 mod counts;

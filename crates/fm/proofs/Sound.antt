@@ -1,9 +1,8 @@
 -- A kept step of the FM demodulator hands on a sound state: alpha is not touched, and only what is finite is stored. A fresh state is sound, and so is one
 -- with de-emphasis. Assumes nothing.
-use Prim.Native.Nat.{ℕ}
-use mathlib.Core.Path.{◌≡◌, refl}
-use mathlib.Core.Bool.{Bool, true, ◌&&◌, and-eq-true_iff}
-use lib.Ieee.{Float, of_bits, binary32, div, le}
+use mathlib.Core.Path.{refl}
+use mathlib.Core.Bool.{◌&&◌, and-eq-true_iff}
+use lib.Ieee.{of_bits, binary32, div, le}
 use lib.Ieee.Scale.{finite}
 use Rattle.angle.specs.Single.{PI32}
 use Rattle.stage.specs.Floats.{both_finite}

@@ -1,8 +1,6 @@
 -- No accepted call of the FM demodulator, no `new` and no `with_deemphasis` gives a state that a later call refuses with SETTING or STATE: alpha stays from 0 to 1,
 -- and the stored floats stay finite. Assumes nothing.
-use Prim.Native.Nat.{ℕ, zero, suc}
-use native.Mathlib.Omega.{arith}
-use mathlib.Core.Path.{◌≡◌, refl, sym, ap, ◌∙◌}
+use mathlib.Core.Path.{◌≡◌}
 use mathlib.Core.Bool.{true, ◌&&◌, and-eq-true_iff}
 use mathlib.Core.List.{List}
 use lib.Ieee.{Float}

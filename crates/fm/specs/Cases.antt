@@ -1,6 +1,6 @@
 -- Worked values of the FM demodulator, by computation: marked cases 10 and 11 of document 01, a struck pair, the ends of the rules. Assumes nothing.
 use Rattle.std.specs.Prelude.{ℕ, ◌≡◌, refl, List, [], ◌∷◌, Float}
-use Rattle.std.specs.Float.{nan, inf, binary32}
+use Rattle.std.specs.Float.{nan, binary32}
 use Rattle.std.specs.Float.Ieee.{of_bits, add, sub, mul, div, lt, le, eq, neg, is_nan, of_int}
 use Rattle.number.specs.Kinds.{absolute, negative}
 use Rattle.number.specs.Narrow.{narrowed}

@@ -5,6 +5,8 @@
 // `specs/Step.antt` has the definition of a step, `specs/State.antt` and `specs/Process.antt` what each call
 // gives, `specs/Cases.antt` the marked cases 10 and 11. The angles are taken first, all of them, since they
 // need no feedback (`angles.rt`). No public function here has a `requires`.
+#![tactic(auto)]
+
 mod angles;
 mod rules;
 mod step;

@@ -1,5 +1,5 @@
 -- Eight numbers narrowed at once, where all of them are near to 1. Definitions only.
-use Rattle.std.specs.Prelude.{ℕ, ◌/◌, ◌%◌, Bool, false, cond, not, ◌&&◌, from_bits, is_nan, nat_le, nat_lt, to_bits, Float}
+use Rattle.std.specs.Prelude.{◌/◌, ◌%◌, Bool, false, cond, not, ◌&&◌, from_bits, is_nan, nat_le, nat_lt, to_bits, Float}
 use Rattle.std.specs.Float.{Format, binary32, binary64}
 use Rattle.std.specs.Float.Ieee.{add}
 use Rattle.number.specs.Narrow.{narrowed}

@@ -8,6 +8,8 @@
 // that the crates above cite are in `proofs/Nearest.antt`, `Pack.antt`, `Grid.antt`, `Rounded.antt`,
 // `Dyadic.antt`, `Adding.antt`, `Splitting.antt`, `Eights.antt`, `Nan.antt` and `Casts.antt`. No public
 // function here has a `requires`.
+#![tactic(auto)]
+
 pub mod alone;
 pub mod eight;
 pub mod kinds;

@@ -3,7 +3,6 @@ use mathlib.Core.Path.{◌≡◌, ap, ◌∙◌}
 use Prim.Native.Nat.{ℕ, ◌+◌, ◌*◌, ◌≤◌, ◌<◌, zero-le}
 use native.Mathlib.Nat.{le_of_lt, le_trans, lt_of_le_of_lt, lt_of_not-le, not-le_of_lt, mul-le-mul_left, mul-le-mul_right, mul-lt-mul_of_pos_right, mul_assoc, mul_left_comm, mul-add, add-mul}
 use native.Mathlib.Omega.{arith}
-use lib.Ieee.Fits.{two}
 
 pub sq_mono : (a b : ℕ) → a ≤ b → a * a ≤ b * b
 sq_mono a b h = le_trans (mul-le-mul_left a h) (mul-le-mul_right b h)

@@ -5,6 +5,8 @@
 // IEEE 754 asks, `proofs/Told.antt` shows that the definition does so, and `specs/Cases.antt` has the
 // marked cases 3 and 4. The root is worked out from the bits by whole numbers. No public function here
 // has a `requires`.
+#![tactic(auto)]
+
 ghost use Rattle.std.specs.Prelude.{◌≡◌, ◌+◌, ◌*◌, ◌^◌, ◌<◌};
 ghost use Rattle.std.specs.Float.{binary32};
 ghost use Rattle.std.specs.Float.Ieee.{of_bits};

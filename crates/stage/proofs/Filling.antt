@@ -6,7 +6,7 @@ use mathlib.Core.Path.{◌≡◌, refl, sym, ap, ◌∙◌}
 use mathlib.Core.List.{List, [], ◌∷◌, ◌++◌, map, append_assoc, append-nil}
 use lib.ListN.{length, get_or, take, drop, set, length-set, length-append}
 use lib.Seq.{drop-cons, take-suc-set, take_all, length-take-le}
-use Rattle.stage.specs.Counted.{counted_from, counted}
+use Rattle.stage.specs.Counted.{counted_from}
 
 module _ {X : Type 0} where
   -- the first i places hold the start of `goal`, and `rest` is what is to come

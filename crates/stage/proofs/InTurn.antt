@@ -1,6 +1,6 @@
 -- Calls that are accepted, however a stream is cut into them, give what one run over the whole stream gives.
 -- It is enough that an accepted call is a run over its input, and that a run can be cut in two. Assumes nothing.
-use mathlib.Core.Path.{◌≡◌, refl, sym, ap, ◌∙◌}
+use mathlib.Core.Path.{◌≡◌, sym, ap, ◌∙◌}
 use mathlib.Core.List.{List, [], ◌∷◌, ◌++◌}
 use Rattle.stage.specs.Refusal.{NONE}
 use Rattle.stage.specs.InTurn.{Given, inputs, call_outs, call_end, Accepted}

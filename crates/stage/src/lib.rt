@@ -7,6 +7,8 @@
 // Lent, Call, Calls and Kept what its calls in place give; Into and IntoCalls what calls with an output
 // slice give; InTurn speaks of any calls in a row, Burst of bad samples. Cases.antt has worked values. The laws that every stage cites stand in proofs/, and proofs/Lib.antt lists them.
 // No public function here has a `requires`.
+#![tactic(auto)]
+
 mod block;
 mod numbers;
 mod settings;

@@ -1,7 +1,6 @@
 -- `root::places` meets its contract, by how many zeros stand above m (`Scale.antt`). Assumes nothing.
 use native.Mathlib.Omega.{arith}
 use lib.Count.{leading_le}
-use borrow.Author.Rules.{rules}
 use Rattle.root.proofs.Scale.{zeros_ge, scales}
 use Rattle.root.proofs.places.Goals as goal
 

@@ -1,6 +1,5 @@
 -- `root::root_bits` meets its contract: the field tells a subnormal number from a normal one (`Patterns.antt`). Assumes nothing.
 use mathlib.Core.Path.{sym, ◌∙◌}
-use borrow.Author.Rules.{rules}
 use Rattle.root.proofs.Patterns.{at_subnormal, at_normal}
 use Rattle.root.proofs.root_bits.Goals as goal
 

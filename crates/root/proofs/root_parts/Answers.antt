@@ -4,7 +4,6 @@ use Prim.Native.Nat.{ℕ, ◌+◌, ◌-◌, ◌*◌, ◌/◌, ◌%◌, ◌^◌, 
 use native.Mathlib.Nat.{mod-eq_of_lt, lt_of_lt_of_le}
 use native.Mathlib.Omega.{arith}
 use lib.Dec.{lit≤}
-use borrow.Author.Rules.{rules}
 use Rattle.root.specs.Inside.{IsRoot, Scaled}
 use Rattle.root.proofs.Scale.{down_pattern, up_pattern, pattern_lt}
 use Rattle.root.proofs.root_parts.Goals as goal

@@ -6,7 +6,6 @@ use lib.Dec.{T}
 use lib.Ieee.{Float, nan, binary32, div, fits, of_bits, to_bits}
 use lib.Ieee.Bits.{of_bits-to_bits, to_bits-lt}
 use native.Mathlib.Nat.{le_of_lt}
-use borrow.Author.Rules.{rules}
 use Rattle.number.proofs.Nan.{is_the_nan, is_number, number_below}
 use Rattle.root.specs.Root.{rooted}
 use Rattle.root.proofs.Patterns.{at_negative, at_minus_zero, at_zero, at_top}

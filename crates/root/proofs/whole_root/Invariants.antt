@@ -1,8 +1,5 @@
 -- `root::whole_root` meets its contract. The loop's invariant: the root is at least r and below r + 2 ^ d (`Digit.antt`). The measure is d. Assumes nothing.
-use mathlib.Core.Path.{◌≡◌, sym, ap, subst}
-use Prim.Native.Nat.{ℕ, ◌+◌, ◌-◌, ◌*◌, ◌%◌, ◌^◌, ◌≤◌, ◌<◌}
-use native.Mathlib.Omega.{arith}
-use Rattle.root.proofs.Digit.{Near, start, digit_is, guess_le, take, leave, square_fits}
+use Rattle.root.proofs.Digit.{Near}
 use Rattle.root.proofs.whole_root.Given as goal
 
 abbrev pub invariant-loop-d : goal.invariant-loop-d

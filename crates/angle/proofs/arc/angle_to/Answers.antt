@@ -1,5 +1,4 @@
 -- `angle::arc::angle_to` meets its contract. Assumes nothing.
-use borrow.Author.Rules.{rules}
 use Rattle.angle.proofs.arc.angle_to.Goals as goal
 
 pub returns : goal.returns

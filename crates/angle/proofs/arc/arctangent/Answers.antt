@@ -1,6 +1,5 @@
 -- `angle::arc::arctangent` meets its contract: it is its three parts. Assumes nothing.
 use Rattle.angle.specs.Arc.{steep, arctan}
-use borrow.Author.Rules.{rules}
 use Rattle.angle.proofs.arc.arctangent.Goals as goal
 
 pub returns : goal.returns

@@ -1,5 +1,4 @@
 -- `angle::arc::mirror` meets its contract. Assumes nothing.
-use borrow.Author.Rules.{rules}
 use mathlib.Core.Path.{◌∙◌, sym}
 use Rattle.angle.specs.Arc.{mirrored}
 use Rattle.angle.proofs.arc.mirror.Goals as goal

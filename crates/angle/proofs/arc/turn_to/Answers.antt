@@ -1,5 +1,4 @@
 -- `angle::arc::turn_to` meets its contract. Assumes nothing.
-use borrow.Author.Rules.{rules}
 use mathlib.Core.Path.{◌∙◌, sym}
 use Rattle.angle.specs.Arc.{turned}
 use Rattle.angle.proofs.arc.turn_to.Goals as goal

@@ -1,5 +1,4 @@
 -- `angle::flat::divided` meets its contract. Assumes nothing.
-use borrow.Author.Rules.{rules}
 use Rattle.angle.specs.Arc.{quotient}
 use Rattle.angle.proofs.flat.divided.Goals as goal
 

@@ -1,5 +1,4 @@
 -- `angle::flat::flat_angle` meets its contract. Assumes nothing.
-use borrow.Author.Rules.{rules}
 use Rattle.angle.specs.Arc.{flat}
 use Rattle.angle.proofs.flat.flat_angle.Goals as goal
 

@@ -1,5 +1,4 @@
 -- `angle::flat::inner_of` meets its contract. Assumes nothing.
-use borrow.Author.Rules.{rules}
 use Rattle.angle.specs.Arc.{inner}
 use Rattle.angle.proofs.flat.inner_of.Goals as goal
 

@@ -1,5 +1,4 @@
 -- `angle::flat::ratio_of` meets its contract. Assumes nothing.
-use borrow.Author.Rules.{rules}
 use Rattle.angle.proofs.flat.ratio_of.Goals as goal
 
 pub returns : goal.returns

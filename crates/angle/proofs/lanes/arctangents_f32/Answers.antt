@@ -3,7 +3,6 @@ use Rattle.angle.specs.Arc.{steep, arctan}
 use Rattle.angle.specs.Single.{arctan32}
 use Rattle.angle.specs.Lanes.{lane}
 use Rattle.angle.proofs.Holding.{holds_four}
-use borrow.Author.Rules.{rules}
 use Rattle.angle.proofs.lanes.arctangents_f32.Goals as goal
 
 pub returns : goal.returns

@@ -1,11 +1,7 @@
 -- `angle::lanes::flat_angles` meets its contract. The loop's invariant: the lanes before l are done. Assumes nothing.
-use mathlib.Core.Path.{◌≡◌}
-use Prim.Native.Nat.{◌-◌, ◌≤◌}
 use native.Mathlib.Omega.{arith}
-use lib.ListN.{length, length-set}
-use Rattle.angle.specs.Lanes.{lane, Holds}
+use lib.ListN.{length-set}
 use Rattle.angle.proofs.Holding.{holds_more}
-use Rattle.angle.specs.Arc.{flat}
 use borrow.Author.Rules.{rules}
 use Rattle.angle.proofs.lanes.flat_angles.Goals as goal
 

@@ -1,12 +1,9 @@
 -- `angle::lanes::ratios` meets its contract. The loop's invariant: the lanes before l are done. Assumes nothing.
 use mathlib.Core.Path.{◌≡◌}
 use Prim.Native.Nat.{◌-◌, ◌≤◌}
-use native.Mathlib.Omega.{arith}
-use lib.ListN.{length, length-set}
+use lib.ListN.{length}
 use Rattle.angle.specs.Parts.{ratio}
 use Rattle.angle.specs.Lanes.{lane, Holds}
-use Rattle.angle.proofs.Holding.{holds_more}
-use borrow.Author.Rules.{rules}
 use Rattle.angle.proofs.lanes.ratios.Given as goal
 
 abbrev pub invariant-loop-l : goal.invariant-loop-l

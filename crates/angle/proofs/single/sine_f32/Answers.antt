@@ -1,5 +1,4 @@
 -- `angle::single::sine_f32` meets its contract. Assumes nothing.
-use borrow.Author.Rules.{rules}
 use Rattle.angle.proofs.single.sine_f32.Goals as goal
 
 pub returns : goal.returns

@@ -1,5 +1,4 @@
 -- `angle::turn::cosine` meets its contract. Assumes nothing.
-use borrow.Author.Rules.{rules}
 use Rattle.angle.specs.Turn.{cosined, cosine_of}
 use Rattle.angle.proofs.turn.cosine.Goals as goal
 

@@ -1,5 +1,4 @@
 -- `angle::turn::reduce` meets its contract. Assumes nothing.
-use borrow.Author.Rules.{rules}
 use Rattle.angle.specs.Turn.{reduced}
 use Rattle.angle.proofs.turn.reduce.Goals as goal
 

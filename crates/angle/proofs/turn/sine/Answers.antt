@@ -1,5 +1,4 @@
 -- `angle::turn::sine` meets its contract. Assumes nothing.
-use borrow.Author.Rules.{rules}
 use Rattle.angle.specs.Turn.{sined, sine_of}
 use Rattle.angle.proofs.turn.sine.Goals as goal
 

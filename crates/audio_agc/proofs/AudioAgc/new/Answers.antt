@@ -1,5 +1,4 @@
 -- `audio_agc::AudioAgc::new` meets its contract: the rules decide the definition's. Assumes nothing.
-use borrow.Author.Rules.{rules}
 use Rattle.audio_agc.proofs.AudioAgc.new.Goals as goal
 
 pub returns-then-levels-hang_allowed : goal.returns-then-levels-hang_allowed

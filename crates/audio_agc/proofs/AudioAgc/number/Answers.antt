@@ -1,5 +1,4 @@
 -- `audio_agc::AudioAgc::number` meets its contract: each flag is the definition's. Assumes nothing.
-use borrow.Author.Rules.{rules}
 use Rattle.audio_agc.proofs.AudioAgc.number.Goals as goal
 
 pub returns : goal.returns

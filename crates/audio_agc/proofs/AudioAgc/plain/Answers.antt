@@ -1,13 +1,9 @@
 -- `audio_agc::AudioAgc::plain` meets its contract: its loop is that of a stage over samples in place. Assumes nothing.
-use Prim.Native.Nat.{◌-◌}
-use mathlib.Core.Logic.{⊎_elim}
-use lib.ListN.{length}
 use lib.Ieee.{nan}
 use Rattle.stage.specs.Floats.{plus_zero}
-use Rattle.stage.proofs.LoopMono.{MonoLoop, mono_begins, mono_turns, mono_ends}
+use Rattle.stage.proofs.LoopMono.{mono_begins, mono_turns, mono_ends}
 use Rattle.stage.proofs.Gives.{told}
 use Rattle.audio_agc.specs.Process.{audio_means, audio_answer}
-use borrow.Author.Rules.{rules}
 use Rattle.audio_agc.proofs.AudioAgc.plain.Goals as goal
 use Rattle.audio_agc.proofs.AudioAgc.plain.Goals.{in-Struck, in-Kept}
 

@@ -1,5 +1,4 @@
 -- `audio_agc::AudioAgc::setting` meets its contract: the rule on the levels is the definition's. Assumes nothing.
-use borrow.Author.Rules.{rules}
 use Rattle.audio_agc.proofs.AudioAgc.setting.Goals as goal
 
 pub returns : goal.returns

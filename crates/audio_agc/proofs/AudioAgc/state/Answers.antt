@@ -1,5 +1,4 @@
 -- `audio_agc::AudioAgc::state` meets its contract: the test of finiteness is the definition's. Assumes nothing.
-use borrow.Author.Rules.{rules}
 use Rattle.audio_agc.proofs.AudioAgc.state.Goals as goal
 
 pub returns : goal.returns

@@ -1,17 +1,15 @@
 -- `audio_agc::AudioAgc::try_live` meets its contract: as long as the flag stands, its loops are those of a trial. Assumes nothing.
-use Prim.Native.Nat.{◌-◌, ◌≤◌}
 use native.Mathlib.Omega.{arith}
-use mathlib.Core.Path.{◌≡◌, sym, ◌∙◌}
+use mathlib.Core.Path.{sym, ◌∙◌}
 use mathlib.Core.Bool.{◌&&◌}
-use lib.ListN.{length, length-set}
+use lib.ListN.{length-set}
 use lib.Ieee.Scale.{finite}
 use Rattle.stage.specs.Floats.{plus_zero}
 use Rattle.stage.proofs.Both.{both}
 use Rattle.stage.proofs.Trial.{trial_begins, trial_ends}
-use Rattle.audio_agc.specs.declared.AudioAgc.{AudioAgc}
 use Rattle.audio_agc.specs.Step.{clamp_one}
 use Rattle.audio_agc.specs.Process.{audio_answer}
-use Rattle.audio_agc.proofs.Trying.{Fine, Trying, trying_turns}
+use Rattle.audio_agc.proofs.Trying.{Fine, trying_turns}
 use borrow.Author.Rules.{rules}
 use Rattle.audio_agc.proofs.AudioAgc.try_live.Goals as goal
 

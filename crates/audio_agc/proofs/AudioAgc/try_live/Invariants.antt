@@ -1,18 +1,9 @@
 -- `audio_agc::AudioAgc::try_live` meets its contract: as long as the flag stands, its loops are those of a trial. Assumes nothing.
 use Prim.Native.Nat.{◌-◌, ◌≤◌}
-use native.Mathlib.Omega.{arith}
-use mathlib.Core.Path.{◌≡◌, sym, ◌∙◌}
-use mathlib.Core.Bool.{◌&&◌}
-use lib.ListN.{length, length-set}
-use lib.Ieee.Scale.{finite}
-use Rattle.stage.specs.Floats.{plus_zero}
-use Rattle.stage.proofs.Both.{both}
-use Rattle.stage.proofs.Trial.{trial_begins, trial_ends}
+use mathlib.Core.Path.{◌≡◌}
+use lib.ListN.{length}
 use Rattle.audio_agc.specs.declared.AudioAgc.{AudioAgc}
-use Rattle.audio_agc.specs.Step.{clamp_one}
-use Rattle.audio_agc.specs.Process.{audio_answer}
-use Rattle.audio_agc.proofs.Trying.{Fine, Trying, trying_turns}
-use borrow.Author.Rules.{rules}
+use Rattle.audio_agc.proofs.Trying.{Trying}
 use Rattle.audio_agc.proofs.AudioAgc.try_live.Given as goal
 
 -- the inner loop knows where it began, and not where the trial did: a trial that it was given goes on

@@ -1,6 +1,5 @@
 -- `audio_agc::level::clamp` meets its contract: the test decides the definition's. Assumes nothing.
 use Rattle.audio_agc.specs.Level.{clamp_of}
-use borrow.Author.Rules.{rules}
 use Rattle.audio_agc.proofs.level.clamp.Goals as goal
 
 pub returns-then-x-low : goal.returns-then-x-low

@@ -1,6 +1,5 @@
 -- `audio_agc::level::dead_gain` meets its contract: the test decides the definition's. Assumes nothing.
 use Rattle.audio_agc.specs.Level.{dead_gain}
-use borrow.Author.Rules.{rules}
 use Rattle.audio_agc.proofs.level.dead_gain.Goals as goal
 
 pub returns-then-magnitude_f32 : goal.returns-then-magnitude_f32

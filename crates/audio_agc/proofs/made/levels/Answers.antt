@@ -1,5 +1,4 @@
 -- `audio_agc::made::levels` meets its contract: each test is the definition's. Assumes nothing.
-use borrow.Author.Rules.{rules}
 use Rattle.audio_agc.proofs.made.levels.Goals as goal
 
 pub returns : goal.returns

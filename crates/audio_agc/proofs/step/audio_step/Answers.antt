@@ -1,6 +1,5 @@
 -- `audio_agc::step::audio_step` meets its contract: the envelope is the definition's, and the floor decides. Assumes nothing.
 use Rattle.audio_agc.specs.Step.{audio_step}
-use borrow.Author.Rules.{rules}
 use Rattle.audio_agc.proofs.step.audio_step.Goals as goal
 
 pub returns-then-envelope-s : goal.returns-then-envelope-s

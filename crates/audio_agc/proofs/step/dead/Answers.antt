@@ -1,7 +1,6 @@
 -- `audio_agc::step::dead` meets its contract: the gain and the counter are the definition's. Assumes nothing.
 use mathlib.Core.Path.{◌∙◌}
 use Rattle.audio_agc.specs.Step.{dead_step}
-use borrow.Author.Rules.{rules}
 use Rattle.audio_agc.proofs.step.dead.Goals as goal
 
 pub returns : goal.returns

@@ -2,7 +2,6 @@
 use borrow.Author.Tests.{lt-ltb, le-ltb}
 use Rattle.audio_agc.specs.Step.{live_step}
 use Rattle.audio_agc.proofs.Tried.{blend_was}
-use borrow.Author.Rules.{rules}
 use Rattle.audio_agc.proofs.step.follow.Goals as goal
 
 pub returns-then-error-s : goal.returns-then-error-s

@@ -1,6 +1,5 @@
 -- `audio_agc::step::keep` meets its contract: the tests decide the definition's. Assumes nothing.
 use Rattle.audio_agc.specs.Step.{keep_step}
-use borrow.Author.Rules.{rules}
 use Rattle.audio_agc.proofs.step.keep.Goals as goal
 
 pub returns-then-both_finite-finite_f32 : goal.returns-then-both_finite-finite_f32

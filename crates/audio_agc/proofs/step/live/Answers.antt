@@ -1,6 +1,5 @@
 -- `audio_agc::step::live` meets its contract: what a signal moves is the definition's. Assumes nothing.
 use mathlib.Core.Path.{sym, ◌∙◌}
-use borrow.Author.Rules.{rules}
 use Rattle.audio_agc.proofs.step.live.Goals as goal
 
 pub returns : goal.returns

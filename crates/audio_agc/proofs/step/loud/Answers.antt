@@ -1,7 +1,6 @@
 -- `audio_agc::step::loud` meets its contract: the clamp is the definition's. Assumes nothing.
 use mathlib.Core.Path.{◌∙◌}
 use Rattle.audio_agc.specs.Step.{loud_step}
-use borrow.Author.Rules.{rules}
 use Rattle.audio_agc.proofs.step.loud.Goals as goal
 
 pub returns : goal.returns

@@ -1,13 +1,10 @@
 -- `audio_agc::trial::clamp_into` meets its contract. The loop's invariant: the first k places are written, and the rest is to come. Assumes nothing.
-use Prim.Native.Nat.{◌-◌, ◌≤◌, ◌<◌}
-use native.Mathlib.Omega.{arith}
-use mathlib.Core.Path.{◌≡◌, refl, sym, ◌∙◌}
+use Prim.Native.Nat.{◌-◌}
+use mathlib.Core.Path.{◌≡◌}
 use mathlib.Core.List.{map}
-use lib.ListN.{length, drop, drop_of_length-le, length-set, length-map}
-use lib.Ieee.{nan}
-use Rattle.stage.proofs.Filling.{Filling, filling_begins, filling_turns, filling_ends, next_mapped}
+use lib.ListN.{length, drop}
+use Rattle.stage.proofs.Filling.{Filling}
 use Rattle.audio_agc.specs.Step.{clamp_one}
-use borrow.Author.Rules.{rules}
 use Rattle.audio_agc.proofs.trial.clamp_into.Given as goal
 
 abbrev pub invariant-loop-k : goal.invariant-loop-k

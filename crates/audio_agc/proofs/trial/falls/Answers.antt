@@ -1,6 +1,5 @@
 -- `audio_agc::trial::falls` meets its contract: where there is no place k, it answers no. Assumes nothing.
 use mathlib.Core.Bool.{false≢true}
-use borrow.Author.Rules.{rules}
 use Rattle.audio_agc.proofs.trial.falls.Goals as goal
 
 pub returns : goal.returns

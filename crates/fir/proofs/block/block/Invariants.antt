@@ -1,13 +1,8 @@
 -- `fir::block::block` meets its contract. The loop's invariant: the first g outputs are written. Assumes nothing.
-use mathlib.Core.Path.{◌≡◌, refl, ◌∙◌}
-use Prim.Native.Nat.{◌+◌, ◌-◌, ◌≤◌}
-use native.Mathlib.Nat.{zero-add}
-use native.Mathlib.Omega.{arith}
+use mathlib.Core.Path.{◌≡◌}
+use Prim.Native.Nat.{◌-◌, ◌≤◌}
 use lib.ListN.{length}
-use Rattle.fir.specs.Written.{placed, element, dots_from}
-use Rattle.fir.proofs.Placed.{placed_group}
-use Rattle.fir.proofs.Places.{window_fits}
-use borrow.Author.Rules.{rules}
+use Rattle.fir.specs.Written.{placed, dots_from}
 use Rattle.fir.proofs.block.block.Given as goal
 
 abbrev pub invariant-loop-g : goal.invariant-loop-g

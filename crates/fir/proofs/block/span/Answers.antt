@@ -3,7 +3,6 @@ use Prim.Native.Nat.{◌-◌, ◌*◌, ◌≤◌}
 use native.Mathlib.Omega.{arith}
 use native.Mathlib.Nat.{mul-le-mul_right}
 use Rattle.fir.proofs.Places.{pred_mul}
-use borrow.Author.Rules.{rules}
 use Rattle.fir.proofs.block.span.Goals as goal
 
 pub overflow_mul-result : goal.overflow_mul-result

@@ -5,7 +5,6 @@ use Prim.Native.Nat.{◌+◌, ◌-◌, ◌≤◌}
 use native.Mathlib.Omega.{arith}
 use lib.ListN.{length, length-append}
 use Rattle.fir.proofs.gather.Gathered.{placed_seen, seen_part, part_length, seen_front, front_length}
-use borrow.Author.Rules.{rules}
 use Rattle.fir.proofs.chunk.chunk.Goals as goal
 
 pub returns-then-history-at : goal.returns-then-history-at

@@ -1,14 +1,9 @@
 -- `fir::chunk::run_planes` meets its contract. The loop's invariant: the first j outputs are written, and `at` is the place of the next. Assumes nothing.
-use mathlib.Core.Path.{◌≡◌, refl, ◌∙◌}
-use Prim.Native.Nat.{◌+◌, ◌-◌, ◌*◌, ◌≤◌, ◌<◌}
-use native.Mathlib.Omega.{arith}
+use mathlib.Core.Path.{◌≡◌}
+use Prim.Native.Nat.{◌+◌, ◌-◌, ◌*◌, ◌≤◌}
 use lib.ListN.{length}
 use mathlib.Core.List.{◌++◌}
-use native.Mathlib.Nat.{zero-mul, add-mul}
 use Rattle.fir.specs.Written.{placed, dots_from}
-use Rattle.fir.proofs.Places.{row_inside}
-use Rattle.fir.proofs.Placed.{placed_dots}
-use borrow.Author.Rules.{rules}
 use Rattle.fir.proofs.chunk.run_planes.Given as goal
 
 abbrev pub invariant-loop-j : goal.invariant-loop-j

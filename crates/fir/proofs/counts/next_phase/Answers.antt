@@ -5,7 +5,6 @@ use native.Mathlib.Omega.{arith}
 use mathlib.Core.Path.{sym}
 use Rattle.fir.specs.Filter.{count_of, next_phase}
 use Rattle.fir.proofs.Counting.{phase_drops, count_some}
-use borrow.Author.Rules.{rules}
 use Rattle.fir.proofs.counts.next_phase.Goals as goal
 
 pub returns-then-n-phase : goal.returns-then-n-phase

@@ -1,13 +1,7 @@
 -- `fir::dot::dot_four` meets its contract: the invariant of `dot_from`, once for each sum. Assumes nothing.
-use mathlib.Core.Path.{◌≡◌, refl, sym, ◌∙◌}
-use mathlib.Core.List.{List}
-use Prim.Native.Nat.{ℕ, ◌-◌}
+use mathlib.Core.Path.{refl, sym, ◌∙◌}
 use native.Mathlib.Omega.{arith}
-use borrow.Author.Rules.{rules}
-use lib.ListN.{length, drop}
-use lib.Ieee.{Float}
-use Rattle.fir.specs.Dot.{dot_from}
-use Rattle.stage.specs.Floats.{plus_zero}
+use lib.ListN.{drop}
 use Rattle.fir.proofs.dot.Products.{dot_step, dot_done}
 use Rattle.fir.proofs.dot.dot_four.Goals as goal
 

@@ -1,14 +1,11 @@
 -- `fir::dot::dot_four` meets its contract: the invariant of `dot_from`, once for each sum. Assumes nothing.
-use mathlib.Core.Path.{◌≡◌, refl, sym, ◌∙◌}
+use mathlib.Core.Path.{◌≡◌}
 use mathlib.Core.List.{List}
 use Prim.Native.Nat.{ℕ, ◌-◌}
-use native.Mathlib.Omega.{arith}
-use borrow.Author.Rules.{rules}
 use lib.ListN.{length, drop}
 use lib.Ieee.{Float}
 use Rattle.fir.specs.Dot.{dot_from}
 use Rattle.stage.specs.Floats.{plus_zero}
-use Rattle.fir.proofs.dot.Products.{dot_step, dot_done}
 use Rattle.fir.proofs.dot.dot_four.Given as goal
 
 -- the sum so far, carried on over what is left, is the whole sum

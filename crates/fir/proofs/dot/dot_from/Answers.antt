@@ -1,10 +1,7 @@
 -- `fir::dot::dot_from` meets its contract. The invariant: the sum so far, carried on over what is left of both lists, is the whole sum. Assumes nothing.
-use mathlib.Core.Path.{◌≡◌, refl, sym, ◌∙◌}
-use Prim.Native.Nat.{◌-◌}
+use mathlib.Core.Path.{refl, sym, ◌∙◌}
 use native.Mathlib.Omega.{arith}
-use borrow.Author.Rules.{rules}
-use lib.ListN.{length, drop}
-use Rattle.fir.specs.Dot.{dot_from}
+use lib.ListN.{drop}
 use Rattle.fir.proofs.dot.Products.{dot_step, dot_done}
 use Rattle.fir.proofs.dot.dot_from.Goals as goal
 

@@ -1,11 +1,8 @@
 -- `fir::dot::dot_from` meets its contract. The invariant: the sum so far, carried on over what is left of both lists, is the whole sum. Assumes nothing.
-use mathlib.Core.Path.{◌≡◌, refl, sym, ◌∙◌}
+use mathlib.Core.Path.{◌≡◌}
 use Prim.Native.Nat.{◌-◌}
-use native.Mathlib.Omega.{arith}
-use borrow.Author.Rules.{rules}
 use lib.ListN.{length, drop}
 use Rattle.fir.specs.Dot.{dot_from}
-use Rattle.fir.proofs.dot.Products.{dot_step, dot_done}
 use Rattle.fir.proofs.dot.dot_from.Given as goal
 
 abbrev pub invariant-loop-i : goal.invariant-loop-i

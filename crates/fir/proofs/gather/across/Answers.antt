@@ -6,7 +6,6 @@ use lib.ListN.{length, take}
 use native.Mathlib.Nat.{sub-zero}
 use Rattle.fir.proofs.gather.Gathered.{seen_copied, front_length}
 use Rattle.fir.proofs.window.Across.{part_tail}
-use borrow.Author.Rules.{rules}
 use Rattle.fir.proofs.gather.across.Goals as goal
 
 pub copy_in-requires-2 : goal.copy_in-requires-2

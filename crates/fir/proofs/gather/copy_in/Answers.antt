@@ -1,6 +1,5 @@
 -- `fir::gather::copy_in` meets its contract. The loop's invariant: the first i elements are copied. Assumes nothing.
 use mathlib.Core.Path.{◌≡◌, refl}
-use Prim.Native.Nat.{◌-◌, ◌≤◌}
 use native.Mathlib.Omega.{arith}
 use lib.ListN.{length, length-set}
 use Rattle.fir.specs.Written.{placed, element}

@@ -1,11 +1,8 @@
 -- `fir::gather::copy_in` meets its contract. The loop's invariant: the first i elements are copied. Assumes nothing.
-use mathlib.Core.Path.{◌≡◌, refl}
+use mathlib.Core.Path.{◌≡◌}
 use Prim.Native.Nat.{◌-◌, ◌≤◌}
-use native.Mathlib.Omega.{arith}
-use lib.ListN.{length, length-set}
+use lib.ListN.{length}
 use Rattle.fir.specs.Written.{placed, element}
-use Rattle.fir.proofs.Placed.{placed_push}
-use borrow.Author.Rules.{rules}
 use Rattle.fir.proofs.gather.copy_in.Given as goal
 
 abbrev pub invariant-loop-i : goal.invariant-loop-i

@@ -4,7 +4,6 @@ use native.Mathlib.Omega.{arith}
 use mathlib.Core.List.{◌++◌}
 use lib.ListN.{length, take, drop}
 use Rattle.fir.proofs.gather.Gathered.{seen_part, seen_copy, part_length}
-use borrow.Author.Rules.{rules}
 use Rattle.fir.proofs.gather.gather.Goals as goal
 
 pub returns-then-history-at : goal.returns-then-history-at

@@ -1,11 +1,9 @@
 -- `fir::history::clear` meets its contract. The loop's invariant: the places before i hold 0.0, and as many are to come as are left. Assumes nothing.
-use Prim.Native.Nat.{suc, ◌+◌, ◌-◌, ◌≤◌}
-use native.Mathlib.Omega.{arith}
-use mathlib.Core.Path.{◌≡◌, refl, sym}
-use lib.ListN.{length, length-set, replicate, length-replicate}
+use Prim.Native.Nat.{◌-◌, ◌≤◌}
+use mathlib.Core.Path.{◌≡◌}
+use lib.ListN.{length, replicate}
 use Rattle.stage.specs.Floats.{plus_zero}
-use Rattle.stage.proofs.Filling.{Filling, filling_begins, filling_turns, filling_ends}
-use borrow.Author.Rules.{rules}
+use Rattle.stage.proofs.Filling.{Filling}
 use Rattle.fir.proofs.history.clear.Given as goal
 
 abbrev pub invariant-loop-i : goal.invariant-loop-i

@@ -4,7 +4,6 @@ use Prim.Native.Nat.{◌-◌}
 use native.Mathlib.Omega.{arith}
 use lib.ListN.{length, drop}
 use Rattle.fir.proofs.history.Over.{keep_long, keep_short, put_tail}
-use borrow.Author.Rules.{rules}
 use Rattle.fir.proofs.history.keep.Goals as goal
 
 pub returns-then-h-n : goal.returns-then-h-n

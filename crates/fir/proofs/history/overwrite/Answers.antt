@@ -1,10 +1,9 @@
 -- `fir::history::overwrite` meets its contract. The loop's invariant: src's first i elements, and then what was there. Assumes nothing.
 use mathlib.Core.Path.{◌≡◌, refl, ◌∙◌}
-use mathlib.Core.List.{[], ◌++◌, append-nil}
-use Prim.Native.Nat.{◌-◌, ◌≤◌}
+use mathlib.Core.List.{[], append-nil}
 use native.Mathlib.Omega.{arith}
 use borrow.Author.Rules.{rules}
-use lib.ListN.{length, take, drop, length-set, drop_of_length-le}
+use lib.ListN.{drop, length-set, drop_of_length-le}
 use Rattle.fir.proofs.history.Over.{over_turn, over_done}
 use Rattle.fir.proofs.history.overwrite.Goals as goal
 

@@ -1,11 +1,8 @@
 -- `fir::history::overwrite` meets its contract. The loop's invariant: src's first i elements, and then what was there. Assumes nothing.
-use mathlib.Core.Path.{◌≡◌, refl, ◌∙◌}
-use mathlib.Core.List.{[], ◌++◌, append-nil}
+use mathlib.Core.Path.{◌≡◌}
+use mathlib.Core.List.{◌++◌}
 use Prim.Native.Nat.{◌-◌, ◌≤◌}
-use native.Mathlib.Omega.{arith}
-use borrow.Author.Rules.{rules}
-use lib.ListN.{length, take, drop, length-set, drop_of_length-le}
-use Rattle.fir.proofs.history.Over.{over_turn, over_done}
+use lib.ListN.{length, take, drop}
 use Rattle.fir.proofs.history.overwrite.Given as goal
 
 abbrev pub invariant-loop-i : goal.invariant-loop-i

@@ -1,11 +1,10 @@
 -- `fir::history::shift` meets its contract. The loop's invariant: the first i elements from n on, and then what was there, which is still read as it was. Assumes nothing.
 use mathlib.Core.Path.{◌≡◌, refl, ◌∙◌}
-use mathlib.Core.List.{◌++◌}
-use Prim.Native.Nat.{◌-◌, ◌≤◌}
+use Prim.Native.Nat.{◌-◌}
 use native.Mathlib.Nat.{add_comm}
 use native.Mathlib.Omega.{arith}
 use borrow.Author.Rules.{rules}
-use lib.ListN.{length, take, drop, length-set, length-drop}
+use lib.ListN.{length, drop, length-set, length-drop}
 use lib.Seq.{get_or-drop}
 use lib.Ieee.{nan}
 use Rattle.fir.proofs.history.Over.{over_turn, over_read, over_done}

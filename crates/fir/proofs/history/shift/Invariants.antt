@@ -1,14 +1,8 @@
 -- `fir::history::shift` meets its contract. The loop's invariant: the first i elements from n on, and then what was there, which is still read as it was. Assumes nothing.
-use mathlib.Core.Path.{◌≡◌, refl, ◌∙◌}
+use mathlib.Core.Path.{◌≡◌}
 use mathlib.Core.List.{◌++◌}
 use Prim.Native.Nat.{◌-◌, ◌≤◌}
-use native.Mathlib.Nat.{add_comm}
-use native.Mathlib.Omega.{arith}
-use borrow.Author.Rules.{rules}
-use lib.ListN.{length, take, drop, length-set, length-drop}
-use lib.Seq.{get_or-drop}
-use lib.Ieee.{nan}
-use Rattle.fir.proofs.history.Over.{over_turn, over_read, over_done}
+use lib.ListN.{length, take, drop}
 use Rattle.fir.proofs.history.shift.Given as goal
 
 abbrev pub invariant-loop-i : goal.invariant-loop-i

@@ -1,8 +1,7 @@
 -- `fir::lanes::put` meets its contract. The loop's invariant: the first l lanes are written. Assumes nothing.
 use mathlib.Core.Path.{◌≡◌}
-use Prim.Native.Nat.{◌-◌, ◌≤◌}
 use native.Mathlib.Omega.{arith}
-use lib.ListN.{length, length-set}
+use lib.ListN.{length-set}
 use Rattle.fir.specs.Written.{placed, element}
 use Rattle.fir.proofs.Placed.{placed_push}
 use borrow.Author.Rules.{rules}

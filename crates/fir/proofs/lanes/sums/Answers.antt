@@ -1,10 +1,10 @@
 -- `fir::lanes::sums` meets its contract. The loop's invariant: each lane's sum so far, carried on over what is left of its window, is its output; p and k are the plane and the row of the next sample. Assumes nothing.
 use mathlib.Core.Path.{◌≡◌}
-use Prim.Native.Nat.{ℕ, ◌+◌, ◌-◌, ◌*◌, ◌≤◌, ◌<◌}
+use Prim.Native.Nat.{ℕ, ◌+◌, ◌*◌, ◌≤◌, ◌<◌}
 use native.Mathlib.Omega.{arith}
 use lib.ListN.{length}
 use native.Mathlib.Nat.{add-mul, one-mul}
-use Rattle.fir.proofs.lanes.Carried.{Lanes, lanes_start, lanes_step, lanes_done}
+use Rattle.fir.proofs.lanes.Carried.{lanes_start, lanes_step, lanes_done}
 use Rattle.fir.proofs.planes.Copied.{row_below}
 use borrow.Author.Rules.{rules}
 use Rattle.fir.proofs.lanes.sums.Goals as goal
@@ -46,9 +46,14 @@ pub loop-i-preserved : goal.loop-i-preserved
 loop-i-preserved c =
     let l = c.loop-i in
     let a = c.args in
-    let r = row c.loop-i.k c.args.q c.loop-i.p c.loop-i.i (length c.args.taps.now) c.args.factor c.loop-i.invariant.2 (omega arith) (omega arith) (omega arith) c.loop-i.invariant.1 in
-    (search rules, omega arith, omega arith, c.turn.ensures.0, lanes_step a.z.now a.taps.now a.x.now a.factor a.q l.p l.k l.i c.requires.filled.1 l.invariant.1 r l.invariant.2 (omega arith)
-          l.acc c.turn.new.acc l.invariant.4 c.turn.ensures.1)
+    let r = row c.loop-i.k c.args.q c.loop-i.p c.loop-i.i (length c.args.taps.now) c.args.factor c.loop-i.invariant.2 (omega arith) (omega arith) (omega arith) c.loop-i.invariant.1 in (
+      search rules,
+      omega arith,
+      omega arith,
+      c.turn.ensures.0,
+      lanes_step a.z.now a.taps.now a.x.now a.factor a.q l.p l.k l.i c.requires.filled.1 l.invariant.1 r l.invariant.2 (omega arith)
+          l.acc c.turn.new.acc l.invariant.4 c.turn.ensures.1,
+    )
 
 pub returns : goal.returns
 returns c =

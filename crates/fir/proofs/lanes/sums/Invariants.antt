@@ -1,12 +1,8 @@
 -- `fir::lanes::sums` meets its contract. The loop's invariant: each lane's sum so far, carried on over what is left of its window, is its output; p and k are the plane and the row of the next sample. Assumes nothing.
 use mathlib.Core.Path.{◌≡◌}
 use Prim.Native.Nat.{◌+◌, ◌-◌, ◌*◌, ◌≤◌, ◌<◌}
-use native.Mathlib.Omega.{arith}
 use lib.ListN.{length}
-use native.Mathlib.Nat.{add-mul, one-mul}
-use Rattle.fir.proofs.lanes.Carried.{Lanes, lanes_start, lanes_step, lanes_done}
-use Rattle.fir.proofs.planes.Copied.{row_below}
-use borrow.Author.Rules.{rules}
+use Rattle.fir.proofs.lanes.Carried.{Lanes}
 use Rattle.fir.proofs.lanes.sums.Given as goal
 
 abbrev pub invariant-loop-i : goal.invariant-loop-i

@@ -1,9 +1,7 @@
 -- `fir::lanes::turn` meets its contract. The loop's invariant: the lanes before l have taken the tap, the others have not. Assumes nothing.
-use mathlib.Core.Path.{◌≡◌}
-use Prim.Native.Nat.{◌-◌, ◌≤◌}
 use native.Mathlib.Omega.{arith}
-use lib.ListN.{length, length-set}
-use Rattle.fir.proofs.lanes.Turning.{Turning, turning_start, turning_step}
+use lib.ListN.{length-set}
+use Rattle.fir.proofs.lanes.Turning.{turning_start, turning_step}
 use borrow.Author.Rules.{rules}
 use Rattle.fir.proofs.lanes.turn.Goals as goal
 

@@ -1,9 +1,7 @@
 -- `fir::odd::block_odd` meets its contract. The loop's invariant: the first g outputs are written. Assumes nothing.
 use mathlib.Core.Path.{◌≡◌, refl, ◌∙◌}
-use Prim.Native.Nat.{◌-◌, ◌≤◌}
 use native.Mathlib.Nat.{zero-add}
 use native.Mathlib.Omega.{arith}
-use lib.ListN.{length}
 use Rattle.fir.specs.Written.{placed, element, odds_from}
 use Rattle.fir.proofs.Placed.{placed_group}
 use borrow.Author.Rules.{rules}

@@ -8,7 +8,6 @@ use lib.ListN.{length, length-append}
 use Rattle.fir.specs.Written.{odds_from}
 use Rattle.fir.proofs.Placed.{placed_same}
 use Rattle.fir.proofs.odd.Odd.{odd_seen}
-use borrow.Author.Rules.{rules}
 use Rattle.fir.proofs.odd.chunk_odd.Goals as goal
 
 pub returns : goal.returns

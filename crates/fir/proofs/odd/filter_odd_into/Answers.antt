@@ -6,11 +6,9 @@ use mathlib.Core.Bool.{true, false}
 use mathlib.Core.List.{List, ◌++◌}
 use lib.ListN.{length}
 use lib.Ieee.{Float}
-use borrow.Author.Tests.{not-true, not-false}
 use Rattle.fir.specs.Filter.{output_at}
 use Rattle.fir.specs.Dot.{odd_taps}
 use Rattle.fir.specs.Into.{fits_odd}
-use Rattle.fir.specs.Ready.{OddReady}
 use Rattle.fir.specs.Written.{odds_from}
 use Rattle.fir.proofs.Counting.{count_of_each}
 use Rattle.fir.proofs.Placed.{placed_outputs}

@@ -1,9 +1,8 @@
 -- `fir::odd::odd_sums` meets its contract. The loop's invariant: each lane's sum so far, carried on over what is left of its window, is its output. Assumes nothing.
-use mathlib.Core.Path.{◌≡◌, refl}
-use Prim.Native.Nat.{◌+◌, ◌-◌, ◌≤◌}
+use mathlib.Core.Path.{refl}
+use Prim.Native.Nat.{◌+◌}
 use native.Mathlib.Omega.{arith}
-use lib.ListN.{length}
-use Rattle.fir.proofs.odd.Odd.{OddLanes, odd_start, odd_turn, odd_done}
+use Rattle.fir.proofs.odd.Odd.{odd_start, odd_turn, odd_done}
 use borrow.Author.Rules.{rules}
 use Rattle.fir.proofs.odd.odd_sums.Goals as goal
 

@@ -1,13 +1,9 @@
 -- `fir::odd::run_odd` meets its contract. The loop's invariant: the first j outputs are written. Assumes nothing.
-use mathlib.Core.Path.{◌≡◌, refl, ◌∙◌}
+use mathlib.Core.Path.{◌≡◌}
 use mathlib.Core.List.{◌++◌}
 use Prim.Native.Nat.{◌-◌, ◌≤◌}
-use native.Mathlib.Nat.{zero-add}
-use native.Mathlib.Omega.{arith}
 use lib.ListN.{length}
 use Rattle.fir.specs.Written.{placed, odds_from}
-use Rattle.fir.proofs.Placed.{placed_next}
-use borrow.Author.Rules.{rules}
 use Rattle.fir.proofs.odd.run_odd.Given as goal
 
 abbrev pub invariant-loop-j : goal.invariant-loop-j

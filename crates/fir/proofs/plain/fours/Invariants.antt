@@ -1,14 +1,9 @@
 -- `fir::plain::fours` meets its contract. The loop's invariant: the first j outputs are written, and `at` is the place of the next. Assumes nothing.
-use mathlib.Core.Path.{◌≡◌, refl, ◌∙◌}
+use mathlib.Core.Path.{◌≡◌}
 use mathlib.Core.List.{◌++◌}
-use Prim.Native.Nat.{◌+◌, ◌-◌, ◌*◌, ◌≤◌, ◌<◌}
-use native.Mathlib.Nat.{add-mul}
-use native.Mathlib.Omega.{arith}
+use Prim.Native.Nat.{◌+◌, ◌-◌, ◌*◌, ◌≤◌}
 use lib.ListN.{length}
-use Rattle.fir.specs.Written.{placed, dots_from, fourth}
-use Rattle.fir.proofs.Places.{place_in}
-use Rattle.fir.proofs.Placed.{placed_next, dots_on}
-use borrow.Author.Rules.{rules}
+use Rattle.fir.specs.Written.{placed, dots_from}
 use Rattle.fir.proofs.plain.fours.Given as goal
 
 abbrev pub invariant-loop-j : goal.invariant-loop-j

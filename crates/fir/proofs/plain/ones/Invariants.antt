@@ -1,14 +1,9 @@
 -- `fir::plain::ones` meets its contract. The loop's invariant: the first l outputs are written, and `a` is the place of the next. Assumes nothing.
-use mathlib.Core.Path.{◌≡◌, refl}
+use mathlib.Core.Path.{◌≡◌}
 use mathlib.Core.List.{◌++◌}
-use Prim.Native.Nat.{◌+◌, ◌-◌, ◌*◌, ◌≤◌, ◌<◌}
-use native.Mathlib.Nat.{add-mul, one-mul}
-use native.Mathlib.Omega.{arith}
-use lib.ListN.{length, length-set}
+use Prim.Native.Nat.{◌+◌, ◌-◌, ◌*◌, ◌≤◌}
+use lib.ListN.{length}
 use Rattle.fir.specs.Written.{placed, dots_from}
-use Rattle.fir.proofs.Places.{row_place}
-use Rattle.fir.proofs.Placed.{placed_push}
-use borrow.Author.Rules.{rules}
 use Rattle.fir.proofs.plain.ones.Given as goal
 
 abbrev pub invariant-loop-l : goal.invariant-loop-l

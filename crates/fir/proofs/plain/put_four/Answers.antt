@@ -3,7 +3,6 @@ use native.Mathlib.Omega.{arith}
 use lib.ListN.{length-set}
 use native.Mathlib.Nat.{add-zero}
 use Rattle.fir.specs.Written.{placed}
-use borrow.Author.Rules.{rules}
 use Rattle.fir.proofs.plain.put_four.Goals as goal
 
 pub bounds-output-j-2 : goal.bounds-output-j-2

@@ -6,7 +6,6 @@ use native.Mathlib.Omega.{arith}
 use lib.ListN.{length}
 use Rattle.fir.proofs.Places.{place_in, row_inside}
 use Rattle.fir.proofs.Placed.{placed_dots}
-use borrow.Author.Rules.{rules}
 use Rattle.fir.proofs.plain.run_plain.Goals as goal
 use Rattle.fir.proofs.plain.run_plain.Goals.{Then-done-count}
 

@@ -1,9 +1,6 @@
 -- `fir::planes::fill` meets its contract. The loop's invariant: the planes before p hold their samples. Assumes nothing.
-use mathlib.Core.Path.{◌≡◌, refl, ◌∙◌}
-use Prim.Native.Nat.{◌-◌, ◌*◌, ◌≤◌}
+use mathlib.Core.Path.{refl, ◌∙◌}
 use native.Mathlib.Omega.{arith}
-use lib.ListN.{length}
-use Rattle.fir.specs.Planes.{Upto}
 use Rattle.fir.proofs.planes.Copied.{upto_all}
 use borrow.Author.Rules.{rules}
 use Rattle.fir.proofs.planes.fill.Goals as goal

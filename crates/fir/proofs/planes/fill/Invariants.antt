@@ -1,11 +1,8 @@
 -- `fir::planes::fill` meets its contract. The loop's invariant: the planes before p hold their samples. Assumes nothing.
-use mathlib.Core.Path.{◌≡◌, refl, ◌∙◌}
+use mathlib.Core.Path.{◌≡◌}
 use Prim.Native.Nat.{◌-◌, ◌*◌, ◌≤◌}
-use native.Mathlib.Omega.{arith}
 use lib.ListN.{length}
 use Rattle.fir.specs.Planes.{Upto}
-use Rattle.fir.proofs.planes.Copied.{upto_all}
-use borrow.Author.Rules.{rules}
 use Rattle.fir.proofs.planes.fill.Given as goal
 
 abbrev pub invariant-loop-p : goal.invariant-loop-p

@@ -2,7 +2,6 @@
 use native.Mathlib.Omega.{arith}
 use lib.ListN.{length-set}
 use Rattle.fir.proofs.planes.Copied.{upto_four}
-use borrow.Author.Rules.{rules}
 use Rattle.fir.proofs.planes.four_rows.Goals as goal
 
 pub bounds-z-place-2 : goal.bounds-z-place-2

@@ -1,12 +1,9 @@
 -- `fir::planes::fours` meets its contract. The loop's invariant: the first k rows of plane p are copied, and s is the next sample of it. Assumes nothing.
-use mathlib.Core.Path.{◌≡◌, refl, ◌∙◌}
-use Prim.Native.Nat.{◌+◌, ◌-◌, ◌*◌, ◌<◌}
+use mathlib.Core.Path.{refl, ◌∙◌}
+use Prim.Native.Nat.{◌+◌, ◌<◌}
 use native.Mathlib.Nat.{zero-mul, add-mul}
 use native.Mathlib.Omega.{arith}
-use lib.ListN.{length}
-use Rattle.fir.specs.Planes.{Upto}
 use Rattle.fir.proofs.planes.Copied.{row_below}
-use borrow.Author.Rules.{rules}
 use Rattle.fir.proofs.planes.fours.Goals as goal
 
 pub loop-s-init : goal.loop-s-init

@@ -1,12 +1,10 @@
 -- `fir::planes::ones` meets its contract. The loop's invariant: the first k rows of plane p are copied, and s is the next sample of it. Assumes nothing.
-use mathlib.Core.Path.{◌≡◌, refl}
-use Prim.Native.Nat.{◌+◌, ◌-◌, ◌*◌, ◌<◌}
+use mathlib.Core.Path.{refl}
+use Prim.Native.Nat.{◌+◌, ◌*◌, ◌<◌}
 use native.Mathlib.Nat.{add-mul, one-mul}
 use native.Mathlib.Omega.{arith}
-use lib.ListN.{length, length-set}
-use Rattle.fir.specs.Planes.{Upto}
+use lib.ListN.{length-set}
 use Rattle.fir.proofs.planes.Copied.{row_below, upto_set, upto_end}
-use borrow.Author.Rules.{rules}
 use Rattle.fir.proofs.planes.ones.Goals as goal
 
 pub loop-s-init : goal.loop-s-init

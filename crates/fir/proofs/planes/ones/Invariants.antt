@@ -1,12 +1,8 @@
 -- `fir::planes::ones` meets its contract. The loop's invariant: the first k rows of plane p are copied, and s is the next sample of it. Assumes nothing.
-use mathlib.Core.Path.{◌≡◌, refl}
+use mathlib.Core.Path.{◌≡◌}
 use Prim.Native.Nat.{◌+◌, ◌-◌, ◌*◌, ◌<◌}
-use native.Mathlib.Nat.{add-mul, one-mul}
-use native.Mathlib.Omega.{arith}
-use lib.ListN.{length, length-set}
+use lib.ListN.{length}
 use Rattle.fir.specs.Planes.{Upto}
-use Rattle.fir.proofs.planes.Copied.{row_below, upto_set, upto_end}
-use borrow.Author.Rules.{rules}
 use Rattle.fir.proofs.planes.ones.Given as goal
 
 abbrev pub invariant-loop-s : goal.invariant-loop-s

@@ -5,16 +5,13 @@ use mathlib.Core.List.{List, ◌++◌}
 use Prim.Native.Nat.{ℕ, ◌+◌, ◌*◌}
 use lib.Ieee.{Float}
 use lib.ListN.{length}
-use borrow.Author.Tests.{not-true, not-false}
 use Rattle.fir.specs.Filter.{count_of}
 use Rattle.fir.specs.Dot.{every_tap}
 use Rattle.fir.specs.Into.{fits}
-use Rattle.fir.specs.Ready.{Ready}
 use Rattle.fir.specs.Written.{dots_from}
 use Rattle.fir.proofs.dot.Products.{dot_output}
 use Rattle.fir.proofs.Placed.{placed_outputs}
 use Rattle.fir.proofs.run.Fitting.{fits_ready}
-use borrow.Author.Rules.{rules}
 use Rattle.fir.proofs.run.filter_into.Goals as goal
 
 pub returns-then-not-fit : goal.returns-then-not-fit

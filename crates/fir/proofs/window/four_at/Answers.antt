@@ -5,7 +5,6 @@ use native.Mathlib.Omega.{arith}
 use lib.ListN.{length}
 use mathlib.Core.List.{◌++◌}
 use Rattle.fir.proofs.window.Across.{window_in, part_long, four_places}
-use borrow.Author.Rules.{rules}
 use Rattle.fir.proofs.window.four_at.Goals as goal
 
 pub offset_bounds-input-pd : goal.offset_bounds-input-pd

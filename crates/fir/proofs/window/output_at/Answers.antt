@@ -2,7 +2,6 @@
 use native.Mathlib.Omega.{arith}
 use Rattle.fir.proofs.window.Across.{window_in, window_across}
 use mathlib.Core.Path.{◌∙◌}
-use borrow.Author.Rules.{rules}
 use Rattle.fir.proofs.window.output_at.Goals as goal
 
 pub returns-then-h-at : goal.returns-then-h-at

@@ -1,13 +1,9 @@
 -- `fm::FmDemodulator::follow` meets its contract: its loop is that of a stage over samples in place. Assumes nothing.
 use Prim.Native.Nat.{◌-◌}
-use mathlib.Core.Logic.{⊎_elim}
 use lib.ListN.{length}
-use lib.Ieee.{nan}
 use Rattle.stage.specs.Floats.{plus_zero}
-use Rattle.stage.proofs.LoopMono.{MonoLoop, mono_begins, mono_turns, mono_ends}
-use Rattle.stage.proofs.Gives.{told}
-use Rattle.fm.specs.Step.{fm_means, from_angle}
-use borrow.Author.Rules.{rules}
+use Rattle.stage.proofs.LoopMono.{MonoLoop}
+use Rattle.fm.specs.Step.{from_angle}
 use Rattle.fm.proofs.FmDemodulator.follow.Given as goal
 
 abbrev pub invariant-loop-k : goal.invariant-loop-k

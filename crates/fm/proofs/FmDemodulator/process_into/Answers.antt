@@ -1,9 +1,9 @@
 -- `fm::FmDemodulator::process_into` meets its contract: the angles first and then the feedback is the run over the pairs, and where the number refuses nothing is done. Assumes nothing.
-use Prim.Native.Nat.{◌+◌, ◌/◌, ◌%◌, ◌≤◌}
+use Prim.Native.Nat.{◌/◌, ◌%◌}
 use native.Mathlib.Nat.{sub-zero}
 use native.Mathlib.Omega.{arith}
 use mathlib.Core.Path.{◌≡◌, sym, ◌∙◌}
-use lib.ListN.{length, take}
+use lib.ListN.{length}
 use lib.Seq.{length-take-le}
 use borrow.Author.Tests.{eqb-true}
 use Rattle.stage.specs.Into.{refused_put, number_into, ran_into}
@@ -11,7 +11,6 @@ use Rattle.stage.proofs.Refusals.{run_gives}
 use Rattle.stage.proofs.Intos.{into_lengths, into_refused}
 use Rattle.fm.specs.Process.{fm_stage}
 use Rattle.fm.proofs.Ahead.{still_room, ahead}
-use borrow.Author.Rules.{rules}
 use Rattle.fm.proofs.FmDemodulator.process_into.Goals as goal
 
 pub returns-then-refusal-ne-NONE : goal.returns-then-refusal-ne-NONE

@@ -1,8 +1,7 @@
 -- `fm::FmDemodulator::with_deemphasis` meets its contract: the number decides what the definition gives. Assumes nothing.
-use mathlib.Core.Path.{◌≡◌, sym, ◌∙◌}
+use mathlib.Core.Path.{sym, ◌∙◌}
 use Rattle.stage.proofs.Refusals.{run_gives, refused_gives}
 use Rattle.fm.specs.State.{alpha_of, with_alpha, deemphasis_no, deemphasised}
-use borrow.Author.Rules.{rules}
 use Rattle.fm.proofs.FmDemodulator.with_deemphasis.Goals as goal
 
 pub returns-then-refusal-ne-NONE : goal.returns-then-refusal-ne-NONE

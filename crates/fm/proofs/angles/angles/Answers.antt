@@ -1,7 +1,7 @@
 -- `fm::angles::angles` meets its contract. The loop's invariant: the angles of the pairs before k are written. Assumes nothing.
 use mathlib.Core.Path.{◌≡◌, refl, ◌∙◌}
 use mathlib.Core.List.{List, [], ◌∷◌, map}
-use Prim.Native.Nat.{ℕ, suc, ◌+◌, ◌-◌, ◌*◌, ◌≤◌}
+use Prim.Native.Nat.{ℕ, suc, ◌+◌, ◌*◌}
 use native.Mathlib.Omega.{arith}
 use lib.ListN.{length, length-set}
 use lib.Ieee.{Float}

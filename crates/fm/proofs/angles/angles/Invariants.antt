@@ -1,16 +1,9 @@
 -- `fm::angles::angles` meets its contract. The loop's invariant: the angles of the pairs before k are written. Assumes nothing.
-use mathlib.Core.Path.{◌≡◌, refl, ◌∙◌}
-use mathlib.Core.List.{List, [], ◌∷◌, map}
-use Prim.Native.Nat.{ℕ, suc, ◌+◌, ◌-◌, ◌*◌, ◌≤◌}
-use native.Mathlib.Omega.{arith}
-use lib.ListN.{length, length-set}
-use lib.Ieee.{Float}
+use mathlib.Core.Path.{◌≡◌}
+use Prim.Native.Nat.{◌+◌, ◌-◌, ◌≤◌}
+use lib.ListN.{length}
 use Rattle.angle.specs.Lanes.{Holds}
-use Rattle.angle.proofs.Holding.{holds_more}
-use Rattle.stage.specs.Layout.{pairs}
-use Rattle.fm.specs.Step.{angle_of}
 use Rattle.fm.specs.Angles.{angle_at}
-use borrow.Author.Rules.{rules}
 use Rattle.fm.proofs.angles.angles.Given as goal
 
 abbrev pub invariant-loop-k : goal.invariant-loop-k

@@ -1,9 +1,7 @@
 -- `fm::angles::every_second` meets its contract. The loop's invariant: the places before l are filled. Assumes nothing.
-use mathlib.Core.Path.{◌≡◌, refl}
-use Prim.Native.Nat.{◌+◌, ◌-◌, ◌*◌, ◌≤◌}
+use mathlib.Core.Path.{refl}
 use native.Mathlib.Omega.{arith}
-use lib.ListN.{length, length-set}
-use Rattle.angle.specs.Lanes.{lane, Holds}
+use lib.ListN.{length-set}
 use Rattle.angle.proofs.Holding.{holds_more}
 use borrow.Author.Rules.{rules}
 use Rattle.fm.proofs.angles.every_second.Goals as goal

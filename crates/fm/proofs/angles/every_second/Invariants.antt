@@ -1,11 +1,8 @@
 -- `fm::angles::every_second` meets its contract. The loop's invariant: the places before l are filled. Assumes nothing.
-use mathlib.Core.Path.{◌≡◌, refl}
+use mathlib.Core.Path.{◌≡◌}
 use Prim.Native.Nat.{◌+◌, ◌-◌, ◌*◌, ◌≤◌}
-use native.Mathlib.Omega.{arith}
-use lib.ListN.{length, length-set}
+use lib.ListN.{length}
 use Rattle.angle.specs.Lanes.{lane, Holds}
-use Rattle.angle.proofs.Holding.{holds_more}
-use borrow.Author.Rules.{rules}
 use Rattle.fm.proofs.angles.every_second.Given as goal
 
 abbrev pub invariant-loop-l : goal.invariant-loop-l

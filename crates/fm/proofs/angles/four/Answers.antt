@@ -1,9 +1,9 @@
 -- `fm::angles::four` meets its contract. The loop's invariant: the angles of the pairs before k + l are written. Assumes nothing.
 use mathlib.Core.Path.{◌≡◌}
 use mathlib.Core.List.{List}
-use Prim.Native.Nat.{ℕ, ◌+◌, ◌-◌, ◌*◌, ◌≤◌}
+use Prim.Native.Nat.{ℕ, ◌+◌, ◌*◌}
 use native.Mathlib.Omega.{arith}
-use lib.ListN.{length, length-set}
+use lib.ListN.{length-set}
 use lib.Ieee.{Float}
 use Rattle.angle.specs.Single.{arctan32}
 use Rattle.angle.specs.Lanes.{lane, Holds, arctans32}

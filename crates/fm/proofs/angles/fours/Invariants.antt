@@ -1,11 +1,9 @@
 -- `fm::angles::fours` meets its contract. The loop's invariant: the angles of the pairs before 4 x g are written. Assumes nothing.
 use mathlib.Core.Path.{◌≡◌}
-use Prim.Native.Nat.{◌+◌, ◌-◌, ◌*◌, ◌≤◌}
-use native.Mathlib.Omega.{arith}
+use Prim.Native.Nat.{◌-◌, ◌*◌, ◌≤◌}
 use lib.ListN.{length}
 use Rattle.angle.specs.Lanes.{Holds}
 use Rattle.fm.specs.Angles.{angle_at}
-use borrow.Author.Rules.{rules}
 use Rattle.fm.proofs.angles.fours.Given as goal
 
 abbrev pub invariant-loop-g : goal.invariant-loop-g

@@ -1,7 +1,6 @@
 -- `fm::rules::alpha` meets its contract. Assumes nothing.
 use mathlib.Core.Path.{refl}
 use Rattle.fm.specs.State.{alpha_of}
-use borrow.Author.Rules.{rules}
 use Rattle.fm.proofs.rules.alpha.Goals as goal
 
 pub returns : goal.returns

@@ -1,6 +1,5 @@
 -- `fm::rules::deemphasis` meets its contract: each flag is the definition's. Assumes nothing.
 use Rattle.fm.specs.State.{deemphasis_no}
-use borrow.Author.Rules.{rules}
 use Rattle.fm.proofs.rules.deemphasis.Goals as goal
 
 pub returns : goal.returns

@@ -1,6 +1,5 @@
 -- `fm::step::step` meets its contract: the test on the three floats decides. Assumes nothing.
 use Rattle.fm.specs.Step.{fm_step, smoothed}
-use borrow.Author.Rules.{rules}
 use Rattle.fm.proofs.step.step.Goals as goal
 
 pub returns-then-both_finite-finite_f32 : goal.returns-then-both_finite-finite_f32

@@ -1,6 +1,5 @@
 -- `fm::step::wrap` meets its contract. Assumes nothing.
 use Rattle.fm.specs.Step.{wrapped}
-use borrow.Author.Rules.{rules}
 use Rattle.fm.proofs.step.wrap.Goals as goal
 
 pub returns : goal.returns

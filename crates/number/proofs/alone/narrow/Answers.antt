@@ -1,5 +1,5 @@
 -- `number::alone::narrow` meets its contract: a NaN is told by x != x, a result that is a normal number comes of `normal`, and the rest of `narrow::narrow`. Assumes nothing.
-use Rattle.std.proofs.Common.{T, sym, ap, ◌∙◌, subst, rules}
+use Rattle.std.proofs.Common.{T, sym, ap, ◌∙◌, subst}
 use lib.Ieee.{binary64, div, of_bits}
 use lib.Ieee.Bits.{of_bits-to_bits}
 use Rattle.number.specs.Narrow.{narrowed}

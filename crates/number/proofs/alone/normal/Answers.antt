@@ -1,5 +1,5 @@
 -- `number::alone::normal` meets its contract (`Whole.antt`). Assumes nothing.
-use Rattle.std.proofs.Common.{ℕ, ◌+◌, ◌-◌, ◌*◌, ◌/◌, ◌≤◌, sym, ap, ◌∙◌, subst, arith, rules}
+use Rattle.std.proofs.Common.{ℕ, ◌+◌, ◌-◌, ◌*◌, ◌/◌, ◌≤◌, sym, ap, ◌∙◌, subst, arith}
 use lib.Ieee.{binary32, of_bits}
 use Rattle.number.proofs.narrow.Signed.{signed_number}
 use Rattle.number.proofs.alone.Whole.{enough, small, out_is}

@@ -1,5 +1,5 @@
 -- `number::alone::rounded` meets its contract: a tie goes to the even one (`half_even`). Assumes nothing.
-use Rattle.std.proofs.Common.{lit<, rules}
+use Rattle.std.proofs.Common.{lit<}
 use Rattle.number.proofs.narrow.Shift.{half_even}
 use Rattle.number.proofs.alone.rounded.Goals as goal
 

@@ -1,8 +1,8 @@
 -- `number::eight::narrow` meets its contract: a sum that is a number has no NaN among its parts, and each that is near is split. Assumes nothing.
-use Rattle.std.proofs.Common.{◌≡◌, Bool, true, false, ◌&&◌, sym, ◌∙◌, rules}
+use Rattle.std.proofs.Common.{◌≡◌, true, false, sym, ◌∙◌}
 use lib.Ieee.{binary64}
 use Rattle.number.proofs.Nan.{is_number, told_nan, told_number, Numbers, numbers}
-use Rattle.number.specs.Eight.{sum_of, all_near, eight_if}
+use Rattle.number.specs.Eight.{sum_of, eight_if}
 use Rattle.number.proofs.Eights.{eight_of_nan, eight_of_numbers}
 use Rattle.number.proofs.eight.Size.{Hold, hold, moved}
 use Rattle.number.proofs.eight.narrow.Goals as goal

@@ -1,6 +1,6 @@
 -- `number::kinds::magnitude_f64` meets its contract: a NaN is told by x != x, and any other x is read back without its highest bit. Assumes nothing.
 use Rattle.std.proofs.Common.{T, sym, subst}
-use lib.Ieee.{binary64, fits}
+use lib.Ieee.{binary64}
 use Rattle.number.proofs.Nan.{is_the_nan, is_number}
 use Rattle.number.proofs.kinds.Tests.{magnitude_is_rest, rest_is_number, magnitude_of_nan}
 use Rattle.number.proofs.kinds.magnitude_f64.Goals as goal

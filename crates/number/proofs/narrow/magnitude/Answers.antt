@@ -1,5 +1,5 @@
 -- `number::narrow::magnitude` meets its contract: `Added.antt` says what the sum and the difference are. Assumes nothing.
-use Rattle.std.proofs.Common.{◌≡◌, ℕ, ◌+◌, ◌-◌, ◌*◌, ◌<◌, ◌≤◌, cond, not, ap, ◌∙◌, le_trans, le_of_eq, lt_of_le_of_lt, arith, lit<, lit≤, rules}
+use Rattle.std.proofs.Common.{◌≡◌, ℕ, ◌+◌, ◌-◌, ◌*◌, ◌<◌, ◌≤◌, cond, not, ap, ◌∙◌, le_trans, le_of_eq, lt_of_le_of_lt, arith, lit<, lit≤}
 use lib.Ieee.{Float, binary32, binary64, of_bits, to_bits, sub, add, fits, is_nan}
 use lib.Ieee.Fits.{and_i}
 use Rattle.number.proofs.narrow.Word.{word, field_lt, place_value}

@@ -1,5 +1,5 @@
 -- `number::narrow::narrow` meets its contract: a NaN is told by x != x, and any other x is read back from its bits. Assumes nothing.
-use Rattle.std.proofs.Common.{Bool, not, T, sym, ap, ◌∙◌, subst, rules}
+use Rattle.std.proofs.Common.{Bool, not, T, sym, ap, ◌∙◌, subst}
 use lib.Ieee.{Float, binary64, div, is_nan, fits, nan_bits, of_bits, to_bits}
 use lib.Ieee.Bits.{of_bits-to_bits, nan_bits_is}
 use Rattle.number.specs.Narrow.{narrowed}

@@ -1,5 +1,5 @@
 -- `number::whole::whole` meets its contract: the machine's cast in its range, and `Range.antt` out of it. Assumes nothing.
-use Rattle.std.proofs.Common.{T, sym, subst, rules}
+use Rattle.std.proofs.Common.{T, sym, subst}
 use lib.Ieee.{of_bits, neg}
 use Rattle.number.proofs.Nan.{is_the_nan}
 use Rattle.number.proofs.whole.Range.{whole_below, whole_nan, whole_above}

@@ -1,6 +1,5 @@
 -- `stage::block::copy` meets its contract: it works where the lengths are the same, and does nothing else. Assumes nothing.
 use borrow.Author.Tests.{eq-eqb, ne_eqb}
-use borrow.Author.Rules.{rules}
 use Rattle.stage.proofs.block.copy.Goals as goal
 
 pub returns-then-from-to : goal.returns-then-from-to

@@ -1,5 +1,5 @@
 -- `stage::block::copy_all` meets its contract. The loop's invariant: the first k places are written, and the rest is to come. Assumes nothing.
-use Prim.Native.Nat.{◌+◌, ◌-◌, ◌≤◌, ◌<◌}
+use Prim.Native.Nat.{◌+◌, ◌≤◌, ◌<◌}
 use native.Mathlib.Numerals.{add-one}
 use native.Mathlib.Omega.{arith}
 use mathlib.Core.Path.{◌≡◌, refl, sym}
@@ -7,8 +7,7 @@ use mathlib.Core.List.{◌∷◌}
 use lib.ListN.{length, get_or, drop, drop_of_length-le, length-set}
 use lib.Seq.{drop-cons}
 use lib.Ieee.{nan}
-use Rattle.stage.proofs.Filling.{Filling, filling_begins, filling_turns, filling_ends}
-use borrow.Author.Rules.{rules}
+use Rattle.stage.proofs.Filling.{filling_begins, filling_turns, filling_ends}
 use Rattle.stage.proofs.block.copy_all.Goals as goal
 
 pub loop-k-init : goal.loop-k-init

@@ -1,5 +1,4 @@
 -- `stage::settings::positive` meets its contract: the test of finiteness is the definition's. Assumes nothing.
-use borrow.Author.Rules.{rules}
 use Rattle.stage.proofs.settings.positive.Goals as goal
 
 pub returns : goal.returns

@@ -1,5 +1,4 @@
 -- `stage::step::both_finite` meets its contract: each test of finiteness is the definition's. Assumes nothing.
-use borrow.Author.Rules.{rules}
 use Rattle.stage.proofs.step.both_finite.Goals as goal
 
 pub returns : goal.returns

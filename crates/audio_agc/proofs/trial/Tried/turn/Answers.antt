@@ -1,5 +1,4 @@
 -- `audio_agc::trial::Tried::turn` meets its contract: its calls' contracts put together. Assumes nothing.
-use borrow.Author.Rules.{rules}
 use Rattle.audio_agc.proofs.trial.Tried.turn.Goals as goal
 
 pub returns : goal.returns
