@@ -6,6 +6,8 @@
 // accepted or refused, `specs/Cases.antt` worked values. proofs/ shows that cutting a stream into calls and
 // dropping the struck pairs change nothing else, and that no call makes a state that a later one refuses. No
 // function here has a `requires`.
+#![tactic(auto)]
+
 mod process;
 mod step;
 

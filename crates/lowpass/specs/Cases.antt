@@ -1,5 +1,5 @@
 -- Worked values of the lowpass design, by computation: three taps, and who is refused at the ends of the rules. Assumes nothing.
-use Rattle.std.specs.Prelude.{ℕ, ◌≡◌, refl, true, false, List, [], ◌∷◌, Float}
+use Rattle.std.specs.Prelude.{ℕ, ◌≡◌, refl, true, false, [], ◌∷◌, Float}
 use Rattle.std.specs.Float.{nan, inf, binary32}
 use Rattle.std.specs.Float.Ieee.{of_bits, add, sub, mul, div, rem, lt, le, eq, neg, of_int}
 use Rattle.number.specs.Narrow.{narrowed}
@@ -7,7 +7,7 @@ use Rattle.angle.specs.Numbers as wide
 use Rattle.angle.specs.Turn.{sined, cosined, sine_of, cosine_of, reduced, pulled, nested, step}
 use Rattle.stage.specs.Floats.{whole}
 use Rattle.lowpass.specs.Rules.{taps_allowed, cutoff_allowed}
-use Rattle.lowpass.specs.Lowpass.{sinc, hamming, unscaled, divided_by, lowpass, refusal_of, designed}
+use Rattle.lowpass.specs.Lowpass.{sinc, hamming, unscaled, divided_by, lowpass, designed}
 
 abbrev float : ℕ → Float
 float b = of_bits binary32 b

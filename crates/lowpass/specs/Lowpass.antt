@@ -1,7 +1,7 @@
 -- The taps of a lowpass filter, as document 01's bullet "Taps" has them: all f32, left to right. Definitions only.
-use Rattle.std.specs.Prelude.{ℕ, ◌-◌, true, ◌&&◌, cond, List, [], ◌∷◌, map, pos, length, Float}
+use Rattle.std.specs.Prelude.{ℕ, ◌-◌, true, ◌&&◌, cond, List, [], ◌∷◌, map, length, Float}
 use Rattle.std.specs.Float.{binary32}
-use Rattle.std.specs.Float.Ieee.{of_bits, of_int, add, sub, mul, div, eq}
+use Rattle.std.specs.Float.Ieee.{of_bits, add, sub, mul, div, eq}
 use Rattle.angle.specs.Single.{PI32, two_pi32, sine32, cosine32}
 use Rattle.stage.specs.Refusal.{refusal_no, answered}
 use Rattle.stage.specs.Floats.{plus_zero, two, whole}

@@ -4,6 +4,8 @@
 // of the lent slice. `specs/Lowpass.antt` has the definition, `specs/Rules.antt` the rules on the number
 // of taps and on the cutoff, which the decimator shares, `specs/Cases.antt` worked values. A rule that is
 // broken is SETTING, and then nothing is written. No public function here has a `requires`.
+#![tactic(auto)]
+
 mod rules;
 mod taps;
 

@@ -1,5 +1,4 @@
 -- `agc::Agc::new` meets its contract: the test is the definition's. Assumes nothing.
-use borrow.Author.Rules.{rules}
 use Rattle.agc.proofs.Agc.new.Goals as goal
 
 pub returns-then-setting : goal.returns-then-setting

@@ -1,5 +1,4 @@
 -- `agc::Agc::number` meets its contract: each flag is the definition's. Assumes nothing.
-use borrow.Author.Rules.{rules}
 use Rattle.agc.proofs.Agc.number.Goals as goal
 
 pub returns : goal.returns

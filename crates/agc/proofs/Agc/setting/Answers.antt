@@ -1,5 +1,4 @@
 -- `agc::Agc::setting` meets its contract: each test is the definition's. Assumes nothing.
-use borrow.Author.Rules.{rules}
 use Rattle.agc.proofs.Agc.setting.Goals as goal
 
 pub returns : goal.returns

@@ -1,6 +1,5 @@
 -- `agc::step::agc_step` meets its contract: the tests decide the definition's. Assumes nothing.
 use Rattle.agc.specs.Step.{agc_step}
-use borrow.Author.Rules.{rules}
 use Rattle.agc.proofs.step.agc_step.Goals as goal
 
 pub returns-then-both_finite-finite_f32 : goal.returns-then-both_finite-finite_f32

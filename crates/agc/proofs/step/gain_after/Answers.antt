@@ -1,6 +1,5 @@
 -- `agc::step::gain_after` meets its contract: the weight is the definition's. Assumes nothing.
 use Rattle.agc.specs.Gain.{gain_after}
-use borrow.Author.Rules.{rules}
 use Rattle.agc.proofs.step.gain_after.Goals as goal
 
 pub returns : goal.returns

@@ -1,12 +1,10 @@
 -- `lowpass::taps::design_lowpass` meets its contract: filled where nothing is refused, and untouched else. Assumes nothing.
 use mathlib.Core.Path.{sym, ◌∙◌}
-use mathlib.Core.Bool.{true}
 use native.Mathlib.Omega.{arith}
 use lib.ListN.{length}
 use Rattle.stage.proofs.Refusals.{run_answers, refused_answers}
 use Rattle.lowpass.specs.Lowpass.{lowpass, refusal_of}
 use Rattle.lowpass.proofs.Allowed.{accepted}
-use borrow.Author.Rules.{rules}
 use Rattle.lowpass.proofs.taps.design_lowpass.Goals as goal
 
 pub fill-requires : goal.fill-requires

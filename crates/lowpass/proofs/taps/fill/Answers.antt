@@ -1,5 +1,4 @@
 -- `lowpass::taps::fill` meets its contract: the sum is that of the shaped taps. Assumes nothing.
-use borrow.Author.Rules.{rules}
 use Rattle.lowpass.proofs.taps.fill.Goals as goal
 
 pub returns : goal.returns

@@ -1,5 +1,4 @@
 -- `lowpass::taps::refusal` meets its contract: both flags are the definition's. Assumes nothing.
-use borrow.Author.Rules.{rules}
 use Rattle.lowpass.proofs.taps.refusal.Goals as goal
 
 pub returns : goal.returns

@@ -1,12 +1,12 @@
 -- `lowpass::taps::scale` meets its contract. The loop's invariant: what is scaled, then the rest scaled, is all scaled. The measure is the taps left. Assumes nothing.
-use Prim.Native.Nat.{◌+◌, ◌-◌, ◌≤◌, ◌<◌}
+use Prim.Native.Nat.{◌+◌, ◌≤◌, ◌<◌}
 use native.Mathlib.Omega.{arith}
-use mathlib.Core.Path.{◌≡◌, refl, sym}
+use mathlib.Core.Path.{refl, sym}
 use mathlib.Core.List.{map}
-use lib.ListN.{length, get_or, drop, drop_of_length-le, length-set, length-map}
+use lib.ListN.{length, get_or, drop_of_length-le, length-set, length-map}
 use lib.Seq.{drop-set-lt}
 use lib.Ieee.{nan}
-use Rattle.stage.proofs.Filling.{Filling, filling_begins, filling_turns, filling_ends, next_mapped}
+use Rattle.stage.proofs.Filling.{filling_begins, filling_turns, filling_ends, next_mapped}
 use Rattle.lowpass.specs.Lowpass.{divided_by}
 use borrow.Author.Rules.{rules}
 use Rattle.lowpass.proofs.taps.scale.Goals as goal

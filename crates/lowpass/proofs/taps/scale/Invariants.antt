@@ -1,14 +1,10 @@
 -- `lowpass::taps::scale` meets its contract. The loop's invariant: what is scaled, then the rest scaled, is all scaled. The measure is the taps left. Assumes nothing.
-use Prim.Native.Nat.{◌+◌, ◌-◌, ◌≤◌, ◌<◌}
-use native.Mathlib.Omega.{arith}
-use mathlib.Core.Path.{◌≡◌, refl, sym}
+use Prim.Native.Nat.{◌-◌, ◌≤◌}
+use mathlib.Core.Path.{◌≡◌}
 use mathlib.Core.List.{map}
-use lib.ListN.{length, get_or, drop, drop_of_length-le, length-set, length-map}
-use lib.Seq.{drop-set-lt}
-use lib.Ieee.{nan}
-use Rattle.stage.proofs.Filling.{Filling, filling_begins, filling_turns, filling_ends, next_mapped}
+use lib.ListN.{length, drop}
+use Rattle.stage.proofs.Filling.{Filling}
 use Rattle.lowpass.specs.Lowpass.{divided_by}
-use borrow.Author.Rules.{rules}
 use Rattle.lowpass.proofs.taps.scale.Given as goal
 
 abbrev pub invariant-loop-i : goal.invariant-loop-i

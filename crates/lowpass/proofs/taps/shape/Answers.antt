@@ -1,10 +1,9 @@
 -- `lowpass::taps::shape` meets its contract. The loop's invariant: the places before i hold their taps, and the rest are to come. The measure is the places left. Assumes nothing.
-use Prim.Native.Nat.{◌-◌, ◌≤◌, ◌<◌}
+use Prim.Native.Nat.{◌-◌, ◌<◌}
 use native.Mathlib.Omega.{arith}
 use mathlib.Core.Path.{◌≡◌, refl, sym}
 use lib.ListN.{length, length-set}
-use Rattle.stage.specs.Counted.{counted_from}
-use Rattle.stage.proofs.Filling.{Filling, filling_begins, filling_turns, filling_ends, next_counted, length_counted}
+use Rattle.stage.proofs.Filling.{filling_begins, filling_turns, filling_ends, next_counted, length_counted}
 use Rattle.lowpass.specs.Lowpass.{unscaled, shapes}
 use borrow.Author.Rules.{rules}
 use Rattle.lowpass.proofs.taps.shape.Goals as goal

@@ -1,12 +1,10 @@
 -- `lowpass::taps::shape` meets its contract. The loop's invariant: the places before i hold their taps, and the rest are to come. The measure is the places left. Assumes nothing.
-use Prim.Native.Nat.{◌-◌, ◌≤◌, ◌<◌}
-use native.Mathlib.Omega.{arith}
-use mathlib.Core.Path.{◌≡◌, refl, sym}
-use lib.ListN.{length, length-set}
+use Prim.Native.Nat.{◌-◌, ◌≤◌}
+use mathlib.Core.Path.{◌≡◌}
+use lib.ListN.{length}
 use Rattle.stage.specs.Counted.{counted_from}
-use Rattle.stage.proofs.Filling.{Filling, filling_begins, filling_turns, filling_ends, next_counted, length_counted}
+use Rattle.stage.proofs.Filling.{Filling}
 use Rattle.lowpass.specs.Lowpass.{unscaled, shapes}
-use borrow.Author.Rules.{rules}
 use Rattle.lowpass.proofs.taps.shape.Given as goal
 
 abbrev pub invariant-loop-i : goal.invariant-loop-i

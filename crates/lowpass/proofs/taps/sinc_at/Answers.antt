@@ -1,8 +1,5 @@
 -- `lowpass::taps::sinc_at` meets its contract, by the test on n. Assumes nothing.
-use mathlib.Core.Path.{refl}
-use lib.Ieee.{of_bits}
 use Rattle.lowpass.specs.Lowpass.{sinc}
-use borrow.Author.Rules.{rules}
 use Rattle.lowpass.proofs.taps.sinc_at.Goals as goal
 
 pub returns-then-n : goal.returns-then-n

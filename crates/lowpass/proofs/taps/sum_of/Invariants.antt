@@ -1,13 +1,8 @@
 -- `lowpass::taps::sum_of` meets its contract. The loop's invariant: the sum of the rest, from the sum so far, is the whole sum. The measure is the taps left. Assumes nothing.
-use Prim.Native.Nat.{◌-◌, ◌≤◌, ◌<◌}
-use native.Mathlib.Numerals.{add-one}
-use native.Mathlib.Omega.{arith}
+use Prim.Native.Nat.{◌-◌, ◌≤◌}
 use mathlib.Core.Path.{◌≡◌}
-use lib.ListN.{length, drop, drop_of_length-le}
-use lib.Seq.{drop-cons}
-use lib.Ieee.{nan}
+use lib.ListN.{length, drop}
 use Rattle.lowpass.specs.Lowpass.{total_from, total}
-use borrow.Author.Rules.{rules}
 use Rattle.lowpass.proofs.taps.sum_of.Given as goal
 
 abbrev pub invariant-loop-i : goal.invariant-loop-i

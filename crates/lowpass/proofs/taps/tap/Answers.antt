@@ -4,7 +4,6 @@ use lib.Ieee.{binary32}
 use Rattle.number.proofs.Casts.{whole_is_float}
 use Rattle.lowpass.specs.Lowpass.{unscaled}
 use Rattle.stage.specs.Floats.{whole}
-use borrow.Author.Rules.{rules}
 use Rattle.lowpass.proofs.taps.tap.Goals as goal
 
 pub int_to_float-i : goal.int_to_float-i

@@ -4,7 +4,6 @@ use Rattle.stage.specs.Floats.{whole}
 use native.Mathlib.Omega.{arith}
 use lib.Ieee.{binary32}
 use Rattle.number.proofs.Casts.{whole_is_float}
-use borrow.Author.Rules.{rules}
 use Rattle.lowpass.proofs.taps.window.Goals as goal
 
 pub int_to_float-i : goal.int_to_float-i
