@@ -1,5 +1,5 @@
 -- A kept step of the AM demodulator hands on a sound state: the weights are not touched, and only what is finite is stored. A fresh state is sound. Assumes nothing.
-use mathlib.Core.Path.{◌≡◌, refl}
+use mathlib.Core.Path.{refl}
 use mathlib.Core.Bool.{◌&&◌, and-eq-true_iff}
 use lib.Ieee.{of_bits, binary32, sub, le}
 use lib.Ieee.Scale.{finite}

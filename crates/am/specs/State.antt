@@ -1,5 +1,5 @@
 -- The AM demodulator's state: what is demanded of it, and a fresh one. Definitions only.
-use Rattle.std.specs.Prelude.{ℕ, Bool, ◌&&◌, Float}
+use Rattle.std.specs.Prelude.{ℕ, Bool, ◌&&◌}
 use Rattle.std.specs.Float.{binary32}
 use Rattle.std.specs.Float.Ieee.{of_bits}
 use Rattle.stage.specs.Floats.{plus_zero, both_finite}

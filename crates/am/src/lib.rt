@@ -4,6 +4,8 @@
 // the magnitude whenever it equals 0, and a high-pass follows. `specs/Step.antt` has the definition of a step,
 // `specs/State.antt` and `specs/Process.antt` what each call gives, `specs/Cases.antt` the marked case 12. No
 // public function here has a `requires`.
+#![tactic(auto)]
+
 mod rules;
 mod step;
 

@@ -1,15 +1,12 @@
 -- What is known of the lengths where a conversion is not refused. Assumes nothing.
 use Prim.Native.Nat.{ℕ, ◌%◌}
-use mathlib.Core.Path.{◌≡◌, sym, ap, ◌∙◌, subst}
+use mathlib.Core.Path.{◌≡◌, sym, subst}
 use mathlib.Core.Bool.{Bool, true, ◌&&◌}
-use mathlib.Core.List.{List}
 use lib.Dec.{T, eqb, eqb→eq}
-use lib.ListN.{length}
-use lib.Ieee.{Float}
 use lib.Ieee.Fits.{and_l, and_r}
 use Rattle.stage.proofs.Refusals.{met}
 use Rattle.stage.specs.Length.{is_within, is_even}
-use Rattle.converter.specs.Convert.{refusal_of, converted}
+use Rattle.converter.specs.Convert.{refusal_of}
 
 holds : {b : Bool} → b ≡ true → T b
 holds e = subst T (sym e) tt

@@ -4,6 +4,8 @@
 // dividing. `specs/Convert.antt` has the definitions, `specs/Cases.antt` the marked cases 1 and 2. More
 // than 262,144 bytes is LIMIT; an odd length, or a target of another length, is LENGTH. Refused, nothing
 // is written. No public function here has a `requires`.
+#![tactic(auto)]
+
 ghost use Rattle.std.specs.Prelude.{◌≡◌, ◌≤◌, ◌%◌, length};
 ghost use Rattle.converter.specs.Convert.{sample_of, negated_of, samples, inverted, refusal_of, converted};
 

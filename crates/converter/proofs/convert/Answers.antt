@@ -1,7 +1,6 @@
 -- `converter::convert` meets its contract: filled where nothing is refused, and untouched else. Assumes nothing.
 use mathlib.Core.Path.{sym, ◌∙◌}
 use lib.ListN.{length}
-use borrow.Author.Rules.{rules}
 use Rattle.converter.specs.Convert.{samples, refusal_of}
 use Rattle.stage.proofs.Refusals.{run_answers, refused_answers}
 use Rattle.converter.proofs.Accepted.{accepted}

@@ -1,9 +1,9 @@
 -- `converter::fill_inverted` meets its contract. The loop's invariant: i is even, the places before it hold the values of the pairs before it, and those of the rest are to come. The measure is the bytes left. Assumes nothing.
-use Prim.Native.Nat.{◌+◌, ◌-◌, ◌%◌, ◌≤◌, ◌<◌}
+use Prim.Native.Nat.{◌+◌, ◌≤◌, ◌<◌}
 use native.Mathlib.Omega.{arith}
 use mathlib.Core.Path.{◌≡◌, sym, ◌∙◌}
-use lib.ListN.{length, drop, drop_of_length-le, length-set}
-use Rattle.stage.proofs.Filling.{Filling, filling_begins, filling_turns, filling_ends}
+use lib.ListN.{length, drop_of_length-le, length-set}
+use Rattle.stage.proofs.Filling.{filling_begins, filling_turns, filling_ends}
 use Rattle.converter.specs.Convert.{inverted}
 use Rattle.converter.proofs.Values.{inverted_length, next_pair}
 use borrow.Author.Rules.{rules}

@@ -1,12 +1,9 @@
 -- `converter::fill_inverted` meets its contract. The loop's invariant: i is even, the places before it hold the values of the pairs before it, and those of the rest are to come. The measure is the bytes left. Assumes nothing.
-use Prim.Native.Nat.{◌+◌, ◌-◌, ◌%◌, ◌≤◌, ◌<◌}
-use native.Mathlib.Omega.{arith}
-use mathlib.Core.Path.{◌≡◌, sym, ◌∙◌}
-use lib.ListN.{length, drop, drop_of_length-le, length-set}
-use Rattle.stage.proofs.Filling.{Filling, filling_begins, filling_turns, filling_ends}
+use Prim.Native.Nat.{◌-◌, ◌%◌, ◌≤◌}
+use mathlib.Core.Path.{◌≡◌}
+use lib.ListN.{length, drop}
+use Rattle.stage.proofs.Filling.{Filling}
 use Rattle.converter.specs.Convert.{inverted}
-use Rattle.converter.proofs.Values.{inverted_length, next_pair}
-use borrow.Author.Rules.{rules}
 use Rattle.converter.proofs.fill_inverted.Given as goal
 
 abbrev pub invariant-loop-i : goal.invariant-loop-i

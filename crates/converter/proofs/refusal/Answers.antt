@@ -1,5 +1,4 @@
 -- `converter::refusal` meets its contract: each flag is the definition's. Assumes nothing.
-use borrow.Author.Rules.{rules}
 use Rattle.converter.proofs.refusal.Goals as goal
 
 pub returns : goal.returns

@@ -2,7 +2,6 @@
 use mathlib.Core.Path.{refl}
 use lib.Ieee.{sub, div, neg, of_int, of_bits}
 use Rattle.converter.specs.Convert.{sample_of}
-use borrow.Author.Rules.{rules}
 use Rattle.converter.proofs.sample.Goals as goal
 
 pub returns : goal.returns

@@ -1,15 +1,12 @@
 -- `am::AmDemodulator::process_into` meets its contract: its loop is that of a stage from pairs to single outputs, and where the number refuses nothing is done. Assumes nothing.
-use Prim.Native.Nat.{◌-◌}
 use mathlib.Core.Path.{sym, ap, ◌∙◌}
-use mathlib.Core.Logic.{⊎_elim}
 use lib.ListN.{length}
 use lib.Ieee.{nan}
 use Rattle.stage.specs.Floats.{plus_zero}
-use Rattle.stage.proofs.LoopInto.{IntoLoop, into_begins, into_turns, into_ends}
+use Rattle.stage.proofs.LoopInto.{into_begins, into_turns, into_ends}
 use Rattle.stage.proofs.Intos.{into_lengths, into_refused, into_run}
 use Rattle.am.specs.Step.{am_means, am_step, am_answer}
 use Rattle.am.specs.Process.{am_stage}
-use borrow.Author.Rules.{rules}
 use Rattle.am.proofs.AmDemodulator.process_into.Goals as goal
 use Rattle.am.proofs.AmDemodulator.process_into.Goals.{in-Struck, in-Kept}
 

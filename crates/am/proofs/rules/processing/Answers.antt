@@ -1,5 +1,4 @@
 -- `am::rules::processing` meets its contract: each flag is the definition's. Assumes nothing.
-use borrow.Author.Rules.{rules}
 use Rattle.am.proofs.rules.processing.Goals as goal
 
 pub returns : goal.returns

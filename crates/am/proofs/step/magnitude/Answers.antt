@@ -1,6 +1,5 @@
 -- `am::step::magnitude` meets its contract. Assumes nothing.
 use Rattle.am.specs.Step.{size_of}
-use borrow.Author.Rules.{rules}
 use Rattle.am.proofs.step.magnitude.Goals as goal
 
 pub returns : goal.returns

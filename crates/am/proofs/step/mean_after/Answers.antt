@@ -1,6 +1,5 @@
 -- `am::step::mean_after` meets its contract, by the test of the mean. Assumes nothing.
 use Rattle.am.specs.Step.{mean_after}
-use borrow.Author.Rules.{rules}
 use Rattle.am.proofs.step.mean_after.Goals as goal
 
 pub returns-then-s : goal.returns-then-s

@@ -1,6 +1,5 @@
 -- `am::step::step` meets its contract: the test on the three floats decides. Assumes nothing.
 use Rattle.am.specs.Step.{am_step, passed}
-use borrow.Author.Rules.{rules}
 use Rattle.am.proofs.step.step.Goals as goal
 
 pub returns-then-both_finite-finite_f32 : goal.returns-then-both_finite-finite_f32
