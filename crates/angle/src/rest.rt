@@ -8,6 +8,9 @@ ghost use Rattle.angle.specs.Numbers.{TAU};
 // TAU is so many parts of 2^-50.
 const TURN: u64 = 7074237752028440;
 
+// The field of an f64's exponent from 4 on.
+const FOUR: u64 = 1025;
+
 // Exact, with x's sign; NaN where x is not finite. Below 4 x is its own rest. From 4 on it is a whole number of those
 // parts times a power of two.
 pub(crate) fn rest(x: f64) -> f64
@@ -18,10 +21,10 @@ pub(crate) fn rest(x: f64) -> f64
     }
     let b = f64::to_bits(x);
     let g = b % 0x8000_0000_0000_0000 / 0x10_0000_0000_0000;
-    if g < 1025 {
+    if g < FOUR {
         return x;
     }
-    let r = doubled(b % 0x10_0000_0000_0000 + 0x10_0000_0000_0000, g - 1025);
+    let r = doubled(b % 0x10_0000_0000_0000 + 0x10_0000_0000_0000, g - FOUR);
     if b >= 0x8000_0000_0000_0000 {
         return r as f64 * -8.881784197001252e-16;
     }

@@ -12,10 +12,10 @@ returns-then-not-finite_f64 c = not_finite_rest c.args.x (sym c.finite_f64.ensur
 pub float_to_bits-b : goal.float_to_bits-b
 float_to_bits-b c = finite_number c.args.x (sym c.finite_f64.ensures ∙ c.if-not-finite_f64.false)
 
-pub returns-then-g-lt1025 : goal.returns-then-g-lt1025
-returns-then-g-lt1025 c =
+pub returns-then-g-lt-FOUR : goal.returns-then-g-lt-FOUR
+returns-then-g-lt-FOUR c =
     let F = subst T (sym c.well_formed.0.1) tt in
-    below_four c.args.x (to_bits binary64 c.args.x) F (of_bits-to_bits binary64 c.args.x F) c.if-g-lt1025.true
+    below_four c.args.x (to_bits binary64 c.args.x) F (of_bits-to_bits binary64 c.args.x F) c.if-g-lt-FOUR.true
 
 pub returns-then-b-ge9223372036854775808 : goal.returns-then-b-ge9223372036854775808
 unfolding neg of_bits
@@ -24,7 +24,7 @@ returns-then-b-ge9223372036854775808 c =
     let B = of_bits-to_bits binary64 c.args.x (subst T (sym c.well_formed.0.1) tt) in
     let u = finite_field c.args.x b B (sym c.finite_f64.ensures ∙ c.if-not-finite_f64.false) in
     ap (λ (r : ℕ). mul binary64 (of_int binary64 (pos r)) (fin true 1 (negsuc 49))) c.doubled-r.ensures
-    ∙ from_four c.args.x b true B c.if-g-lt1025.false u (sign_set b c.if-b-ge9223372036854775808.true)
+    ∙ from_four c.args.x b true B c.if-g-lt-FOUR.false u (sign_set b c.if-b-ge9223372036854775808.true)
 
 pub returns : goal.returns
 unfolding of_bits
@@ -33,4 +33,4 @@ returns c =
     let B = of_bits-to_bits binary64 c.args.x (subst T (sym c.well_formed.0.1) tt) in
     let u = finite_field c.args.x b B (sym c.finite_f64.ensures ∙ c.if-not-finite_f64.false) in
     ap (λ (r : ℕ). mul binary64 (of_int binary64 (pos r)) (fin false 1 (negsuc 49))) c.doubled-r.ensures
-    ∙ from_four c.args.x b false B c.if-g-lt1025.false u (sign_clear b c.if-b-ge9223372036854775808.false)
+    ∙ from_four c.args.x b false B c.if-g-lt-FOUR.false u (sign_clear b c.if-b-ge9223372036854775808.false)
