@@ -8,6 +8,8 @@
 // work block by block (`block.rt`): a block is tried without a test at each sample (`trial.rt`), and worked in
 // the plain form (`plain.rt`) where a sample of it is struck. I and Q in two slices are put together, worked as
 // pairs, and taken apart again. No public function here has a `requires`.
+#![tactic(auto)]
+
 mod block;
 mod plain;
 mod process;

@@ -1,7 +1,7 @@
 -- Worked values of the halves, by computation. Assumes nothing.
 use Rattle.std.specs.Prelude.{◌≡◌, refl, [], ◌∷◌}
 use Rattle.std.specs.Float.{nan}
-use Rattle.stage.specs.Floats.{plus_zero, one, two}
+use Rattle.stage.specs.Floats.{one, two}
 use Rattle.halves.specs.Halves.{apart, together}
 
 pub taken_apart : apart (one ∷ two ∷ two ∷ one ∷ []) (nan ∷ nan ∷ []) (nan ∷ nan ∷ []) ≡ (one ∷ two ∷ [], two ∷ one ∷ [])

@@ -4,6 +4,8 @@
 // takes one apart before its decimators and puts it together behind them, and the DC remover works I and Q in two
 // slices as pairs. `specs/Halves.antt` has the definitions.
 // Slices whose lengths do not fit stay as they are. No public function here has a `requires`.
+#![tactic(auto)]
+
 ghost use Rattle.std.specs.Prelude.{◌≡◌, ◌+◌, length};
 ghost use Rattle.stage.specs.Layout.{pairs, flat, zip, firsts, seconds};
 ghost use Rattle.halves.specs.Halves.{fit, apart, together};

@@ -1,8 +1,7 @@
 -- `halves::join` meets its contract: it works where the lengths fit, and does nothing else. Assumes nothing.
-use mathlib.Core.Path.{◌≡◌, sym, ◌∙◌}
+use mathlib.Core.Path.{sym, ◌∙◌}
 use lib.ListN.{length}
 use Rattle.halves.proofs.Lengths.{fit_lengths}
-use borrow.Author.Rules.{rules}
 use Rattle.halves.proofs.join.Goals as goal
 
 pub put_together-requires : goal.put_together-requires

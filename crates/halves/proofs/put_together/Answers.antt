@@ -1,6 +1,6 @@
 -- `halves::put_together` meets its contract. The loop's invariant: the places of the first k pairs hold them, and the rest are to come.
 -- The measure is the pairs left. Assumes nothing.
-use Prim.Native.Nat.{◌+◌, ◌-◌, ◌*◌, ◌≤◌, ◌<◌}
+use Prim.Native.Nat.{◌+◌, ◌*◌, ◌≤◌, ◌<◌}
 use native.Mathlib.Numerals.{add-one}
 use native.Mathlib.Omega.{arith}
 use mathlib.Core.Path.{◌≡◌, refl}
@@ -9,7 +9,7 @@ use lib.ListN.{length, get_or, drop, length-set, drop_of_length-le}
 use lib.Seq.{drop-cons}
 use lib.Ieee.{nan}
 use Rattle.stage.specs.Layout.{flat, zip}
-use Rattle.stage.proofs.Filling.{Filling, filling_begins, filling_turns, filling_ends}
+use Rattle.stage.proofs.Filling.{filling_begins, filling_turns, filling_ends}
 use Rattle.stage.proofs.Layouts.{length_zip, length_flat}
 use borrow.Author.Rules.{rules}
 use Rattle.halves.proofs.put_together.Goals as goal

@@ -1,8 +1,7 @@
 -- `halves::split` meets its contract: it works where the lengths fit, and does nothing else. Assumes nothing.
-use mathlib.Core.Path.{◌≡◌, sym, ◌∙◌}
+use mathlib.Core.Path.{sym, ◌∙◌}
 use lib.ListN.{length}
 use Rattle.halves.proofs.Lengths.{fit_lengths}
-use borrow.Author.Rules.{rules}
 use Rattle.halves.proofs.split.Goals as goal
 
 pub take_apart-requires : goal.take_apart-requires

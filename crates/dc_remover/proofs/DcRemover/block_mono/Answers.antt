@@ -2,8 +2,7 @@
 use native.Mathlib.Omega.{arith}
 use mathlib.Core.Path.{◌≡◌, sym, ◌∙◌}
 use lib.ListN.{length}
-use borrow.Author.Tests.{eq-eqb, not-false}
-use borrow.Author.Rules.{rules}
+use borrow.Author.Tests.{eq-eqb}
 use Rattle.dc_remover.proofs.DcRemover.block_mono.Goals as goal
 
 pub returns : goal.returns

@@ -9,7 +9,6 @@ use Rattle.stage.specs.Floats.{plus_zero}
 use Rattle.halves.proofs.Lengths.{apart_gives, together_gives}
 use Rattle.stage.proofs.SplitParts.{split_as_interleaved}
 use Rattle.dc_remover.specs.Process.{given, pair_stage}
-use borrow.Author.Rules.{rules}
 use Rattle.dc_remover.proofs.DcRemover.block_split.Goals as goal
 
 pub slice_bounds-pairs-end : goal.slice_bounds-pairs-end

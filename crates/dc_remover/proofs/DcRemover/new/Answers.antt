@@ -1,5 +1,4 @@
 -- `dc_remover::DcRemover::new` meets its contract: the test is the definition's. Assumes nothing.
-use borrow.Author.Rules.{rules}
 use Rattle.dc_remover.proofs.DcRemover.new.Goals as goal
 
 pub returns-then-in_unit : goal.returns-then-in_unit

@@ -1,5 +1,4 @@
 -- `dc_remover::DcRemover::number` meets its contract: each flag is the definition's. Assumes nothing.
-use borrow.Author.Rules.{rules}
 use Rattle.dc_remover.proofs.DcRemover.number.Goals as goal
 
 pub returns : goal.returns

@@ -1,13 +1,9 @@
 -- `dc_remover::DcRemover::plain_mono` meets its contract: its loop is that of a stage over samples in place. Assumes nothing.
 use Prim.Native.Nat.{◌-◌}
-use mathlib.Core.Logic.{⊎_elim}
 use lib.ListN.{length}
-use lib.Ieee.{nan}
 use Rattle.stage.specs.Floats.{plus_zero}
-use Rattle.stage.proofs.LoopMono.{MonoLoop, mono_begins, mono_turns, mono_ends}
-use Rattle.stage.proofs.Gives.{told}
-use Rattle.dc_remover.specs.Step.{mono_means, mono_answer}
-use borrow.Author.Rules.{rules}
+use Rattle.stage.proofs.LoopMono.{MonoLoop}
+use Rattle.dc_remover.specs.Step.{mono_answer}
 use Rattle.dc_remover.proofs.DcRemover.plain_mono.Given as goal
 
 abbrev pub invariant-loop-i : goal.invariant-loop-i

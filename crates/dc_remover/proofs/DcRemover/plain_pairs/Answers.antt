@@ -1,14 +1,11 @@
 -- `dc_remover::DcRemover::plain_pairs` meets its contract: its loop is that of a stage over interleaved pairs in place. Assumes nothing.
-use Prim.Native.Nat.{◌-◌}
 use native.Mathlib.Omega.{arith}
-use mathlib.Core.Logic.{⊎_elim}
-use lib.ListN.{length, length-set}
+use lib.ListN.{length-set}
 use lib.Ieee.{nan}
 use Rattle.stage.specs.Floats.{plus_zero}
-use Rattle.stage.proofs.LoopInterleaved.{InterleavedLoop, interleaved_begins, interleaved_turns, interleaved_ends}
+use Rattle.stage.proofs.LoopInterleaved.{interleaved_begins, interleaved_turns, interleaved_ends}
 use Rattle.stage.proofs.Gives.{told}
 use Rattle.dc_remover.specs.Step.{pair_means, pair_answer}
-use borrow.Author.Rules.{rules}
 use Rattle.dc_remover.proofs.DcRemover.plain_pairs.Goals as goal
 use Rattle.dc_remover.proofs.DcRemover.plain_pairs.Goals.{in-Struck, in-Kept}
 

@@ -1,14 +1,9 @@
 -- `dc_remover::DcRemover::plain_pairs` meets its contract: its loop is that of a stage over interleaved pairs in place. Assumes nothing.
 use Prim.Native.Nat.{◌-◌}
-use native.Mathlib.Omega.{arith}
-use mathlib.Core.Logic.{⊎_elim}
-use lib.ListN.{length, length-set}
-use lib.Ieee.{nan}
+use lib.ListN.{length}
 use Rattle.stage.specs.Floats.{plus_zero}
-use Rattle.stage.proofs.LoopInterleaved.{InterleavedLoop, interleaved_begins, interleaved_turns, interleaved_ends}
-use Rattle.stage.proofs.Gives.{told}
-use Rattle.dc_remover.specs.Step.{pair_means, pair_answer}
-use borrow.Author.Rules.{rules}
+use Rattle.stage.proofs.LoopInterleaved.{InterleavedLoop}
+use Rattle.dc_remover.specs.Step.{pair_answer}
 use Rattle.dc_remover.proofs.DcRemover.plain_pairs.Given as goal
 
 abbrev pub invariant-loop-i : goal.invariant-loop-i

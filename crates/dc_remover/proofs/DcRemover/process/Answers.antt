@@ -1,14 +1,13 @@
 -- `dc_remover::DcRemover::process` meets its contract: its loop goes on by a block whose run is the definition's, and where the number refuses nothing is done. Assumes nothing.
-use Prim.Native.Nat.{◌-◌, ◌≤◌, ◌%◌}
+use Prim.Native.Nat.{◌-◌, ◌%◌}
 use native.Mathlib.Omega.{arith}
 use mathlib.Core.Path.{◌≡◌, refl, ◌∙◌}
 use lib.ListN.{length, take, drop, length-drop}
 use lib.Seq.{length-take-le}
 use borrow.Author.Tests.{eqb-true, eq-eqb}
 use Rattle.stage.specs.Lent.{interleaved}
-use Rattle.stage.specs.Call.{gave}
 use Rattle.stage.proofs.Gives.{gives_refused, accepted_even, gives_ran}
-use Rattle.stage.proofs.InParts.{PartLoop, interleaved_row, part_begins, part_few, part_turns, part_ends}
+use Rattle.stage.proofs.InParts.{interleaved_row, part_begins, part_few, part_turns, part_ends}
 use Rattle.dc_remover.specs.Process.{given, pair_stage}
 use borrow.Author.Rules.{rules}
 use Rattle.dc_remover.proofs.DcRemover.process.Goals as goal

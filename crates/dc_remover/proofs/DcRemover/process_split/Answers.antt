@@ -1,10 +1,10 @@
 -- `dc_remover::DcRemover::process_split` meets its contract: its loop goes on by a block whose run is the definition's, and where the number refuses nothing is done. Assumes nothing.
-use Prim.Native.Nat.{◌-◌, ◌≤◌}
+use Prim.Native.Nat.{◌≤◌}
 use native.Mathlib.Omega.{arith}
-use mathlib.Core.Path.{◌≡◌, sym, ◌∙◌}
+use mathlib.Core.Path.{◌∙◌}
 use Rattle.stage.specs.Lent.{split}
 use Rattle.stage.proofs.Gives.{gives_refused, gives_ran}
-use Rattle.stage.proofs.SplitParts.{SplitParts, split_parts_begin, part_left, part_right, split_part_few, split_parts_turn, split_parts_end}
+use Rattle.stage.proofs.SplitParts.{split_parts_begin, part_left, part_right, split_part_few, split_parts_turn, split_parts_end}
 use Rattle.dc_remover.specs.Process.{given, pair_stage}
 use borrow.Author.Rules.{rules}
 use Rattle.dc_remover.proofs.DcRemover.process_split.Goals as goal

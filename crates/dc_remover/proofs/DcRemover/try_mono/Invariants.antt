@@ -1,13 +1,9 @@
 -- `dc_remover::DcRemover::try_mono` meets its contract: its loop is that of a trial over samples. Assumes nothing.
 use Prim.Native.Nat.{◌-◌}
-use mathlib.Core.List.{map-id}
-use lib.ListN.{length, length-set}
-use lib.Ieee.{nan}
+use lib.ListN.{length}
 use Rattle.stage.specs.Floats.{plus_zero}
-use Rattle.stage.proofs.Trial.{MonoTrial, trial_begins, trial_turns, trial_ends}
+use Rattle.stage.proofs.Trial.{MonoTrial}
 use Rattle.dc_remover.specs.Step.{mono_answer}
-use Rattle.dc_remover.proofs.Tried.{mono_kept}
-use borrow.Author.Rules.{rules}
 use Rattle.dc_remover.proofs.DcRemover.try_mono.Given as goal
 
 abbrev pub invariant-loop-k : goal.invariant-loop-k

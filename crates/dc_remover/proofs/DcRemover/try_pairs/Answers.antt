@@ -1,14 +1,12 @@
 -- `dc_remover::DcRemover::try_pairs` meets its contract: its loop is that of a trial over interleaved pairs. Assumes nothing.
-use Prim.Native.Nat.{◌-◌}
 use native.Mathlib.Omega.{arith}
-use lib.ListN.{length, length-set}
+use lib.ListN.{length-set}
 use lib.Ieee.{nan}
 use Rattle.stage.specs.Floats.{plus_zero}
 use borrow.Author.Tests.{eqb-true}
-use Rattle.stage.proofs.Trial.{PairTrial, pair_trial_begins, pair_trial_turns, pair_trial_ends}
+use Rattle.stage.proofs.Trial.{pair_trial_begins, pair_trial_turns, pair_trial_ends}
 use Rattle.dc_remover.specs.Step.{pair_answer}
 use Rattle.dc_remover.proofs.Tried.{pair_kept}
-use borrow.Author.Rules.{rules}
 use Rattle.dc_remover.proofs.DcRemover.try_pairs.Goals as goal
 
 pub loop-k-init : goal.loop-k-init

@@ -1,6 +1,5 @@
 -- `dc_remover::step::mono_step` meets its contract: the test decides the definition's. Assumes nothing.
 use Rattle.dc_remover.specs.Step.{mono_step}
-use borrow.Author.Rules.{rules}
 use Rattle.dc_remover.proofs.step.mono_step.Goals as goal
 
 pub returns-then-both_finite : goal.returns-then-both_finite

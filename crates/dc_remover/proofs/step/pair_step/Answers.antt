@@ -1,6 +1,5 @@
 -- `dc_remover::step::pair_step` meets its contract: the tests decide the definition's. Assumes nothing.
 use Rattle.dc_remover.specs.Step.{pair_step}
-use borrow.Author.Rules.{rules}
 use Rattle.dc_remover.proofs.step.pair_step.Goals as goal
 
 pub returns-then-both_finite : goal.returns-then-both_finite
