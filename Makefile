@@ -16,17 +16,14 @@ listen: demo ## hear it: demodulate the capture that is shipped, into build/alar
 test: ## prove everything, try the edits that must be refused, run the programs; the last line is 'N passed, 0 failed'
 	@tests/gate.sh
 
-refused: ## try the edits of crates/NAME/refused alone, over what is proved (ARGS='fir nco' for some crates)
-	@tests/need.sh rt python3
-	@rt check
-	@tests/refused.py $(ARGS)
+refused: ## try the edits that must be refused alone, over what is proved (ARGS='fir nco' for some crates)
+	@tests/need.sh rt
+	@rt must-fail $(ARGS)
 
 lib: ## build/libthreshlantern.a and build/threshlantern.h, the library for C and Rust
 	@tests/lib.sh
 
 demo: ## build/demo: pairs of bytes on standard input, f32 of sound on standard output
-	@tests/need.sh rt
-	@rt check demo
 	@tests/program.sh demo
 
 faces: lib demo ## run what C and Rust see: header, symbols, examples, the crate's tests, the demo on cut pipes
@@ -52,7 +49,7 @@ bench: lib ## the library's speed beside the Rust original, in one run (ARGS='--
 
 fmt: ## lay the Rattle sources and proofs out as the gate wants them
 	@tests/need.sh rt
-	@rt fmt
+	@for crate in crates/*/; do (cd $$crate && rt fmt) || exit 1; done
 
-clean: ## remove target/ and build/
-	@rm -rf target build
+clean: ## remove what was made: target/, build/ and what rt keeps of each crate
+	@rm -rf target build crates/*/out

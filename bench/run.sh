@@ -40,9 +40,6 @@ build plain --check-cfg 'cfg(liquid, volk)' "${others[@]}"
 build native --check-cfg 'cfg(liquid, volk)' -C target-cpu=native
 
 LC_ALL=C lscpu 2>/dev/null | sed -n 's/^Model name: */processor: /p' || true
-if [ "$(uname -m)" != x86_64 ]; then
-  echo "this machine is $(uname -m): the library's LLVM module is compiled for it, as tests/lib.sh tells"
-fi
 echo
 echo "the original at opt-level 3"
 "$target/plain" "$@"

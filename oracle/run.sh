@@ -36,7 +36,7 @@ cannot() {
   exit 3
 }
 if ! command -v rustc >/dev/null; then cannot "rustc is not on the PATH"; fi
-if [ ! -f "$archive" ] && [ -f "$root/target/staticlib/libthreshlantern.a" ]; then
+if [ ! -f "$archive" ] && [ -f "$root/build/libthreshlantern.a" ]; then
   cannot "the library is for x86-64, and this machine is $(uname -m)"
 fi
 if [ ! -f "$archive" ]; then

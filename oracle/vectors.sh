@@ -33,4 +33,4 @@ with open(work + '/stdout', 'w') as out:
 PY
 cp "$work/answers.txt" "$vectors/data/answers.txt"
 cp "$work/stdout" "$vectors/stdout"
-echo "vectors: $(wc -l <"$vectors/data/answers.txt") cases stored; 'rt check vectors' replays them"
+echo "vectors: $(wc -l <"$vectors/data/answers.txt") cases stored; 'rt ci vectors' replays them"

@@ -1,7 +1,9 @@
 #!/usr/bin/env python3
 """Checks the hand-written declarations against the Rattle source: the C header and the Rust crate declare every
 exported function and every struct that passes by value, with the same names, types and order, and nothing else; and
-bindings/c/symbols.txt lists the same functions. No compiler checks that. Exit status: 0 they agree; 1 they do not.
+bindings/c/symbols.txt lists the same functions. No compiler checks that. The static library `threshlantern_c` must also
+have each function of the library `threshlantern`, with the same contract, and call it. Exit status: 0 they agree; 1 they
+do not.
 """
 import glob
 import os
@@ -45,6 +47,25 @@ def read(*path):
         return file.read()
 
 
+def sources(crate):
+    return sorted(glob.glob(os.path.join(ROOT, "crates", crate, "src", "*.rt")))
+
+
+FUNCTION = r'(pub extern "C" fn (\w+)\((.*?)\).*?)\n\{(.*?)\n\}'
+
+
+def contracts(crate):
+    """Each function's signature and contract and what its clauses import, by module; and whether it hands its arguments
+    on to the function of its name in `threshlantern`."""
+    for path in sources(crate):
+        module = os.path.basename(path)[: -len(".rt")]
+        for line in re.findall(r"^ghost use .*", read(path), re.M):
+            yield "%s: %s" % (module, line), True
+        for contract, name, given, body in re.findall(FUNCTION, read(path), re.S):
+            given = ",".join(p.split(":")[0].strip() for p in given.split(",") if p.strip())
+            yield "%s: %s" % (module, plain(contract)), plain(body) == "threshlantern::%s::%s(%s)" % (module, name, given)
+
+
 def plain(text):
     """One space between words, none inside brackets."""
     text = re.sub(r"\s+", " ", text).strip()
@@ -54,12 +75,12 @@ def plain(text):
 def rattle():
     """The exported functions, as (name, [(parameter, type)], type), and the fields of the structs."""
     functions, fields = [], {}
-    for path in sorted(glob.glob(os.path.join(ROOT, "crates", "threshlantern", "src", "*.rt"))):
+    for path in sources("threshlantern_c"):
         for name, given, back in re.findall(r'pub extern "C" fn (\w+)\((.*?)\) -> (\w+)', read(path), re.S):
             given = [tuple(part.strip() for part in p.split(":")) for p in given.split(",") if p.strip()]
             functions.append((name, given, back))
     for path in glob.glob(os.path.join(ROOT, "crates", "*", "src", "*.rt")):
-        for name, body in re.findall(r"#\[repr\(C\)\]\npub struct (\w+) \{(.*?)\n\}", read(path), re.S):
+        for name, body in re.findall(r"#\[repr\(C\)\]\n(?:#\[[^\n]*\n)*pub struct (\w+) \{(.*?)\n\}", read(path), re.S):
             fields[name] = re.findall(r"pub (\w+): (\w+)", body)
     return functions, fields
 
@@ -127,15 +148,18 @@ def main():
     functions, fields = rattle()
     stages = [f for f in functions if not is_number(f)]
     symbols = [line.split()[1] for line in read("bindings", "c", "symbols.txt").splitlines() if line.startswith("T ")]
+    exports = list(contracts("threshlantern_c"))
     agree = [
+        compare("threshlantern_c", [contract for contract, _ in contracts("threshlantern")], [c for c, _ in exports]),
+        compare("threshlantern_c, handing on,", [c for c, _ in exports], [c for c, hands_on in exports if hands_on]),
         compare("threshlantern.h", c_wanted(functions, fields), c_found()),
         compare("ffi.rs", rust_wanted(stages, fields), rust_found()),
         compare("symbols.txt", [f[0] for f in functions], symbols),
     ]
     if not all(agree):
         sys.exit(1)
-    said = "declared: %d functions and %d structs, in the header and in the crate as in the source"
-    print(said % (len(functions), len(STRUCTS)))
+    words = "declared: %d functions and %d structs, in the header and in the crate as in the source"
+    print(words % (len(functions), len(STRUCTS)))
 
 
 def is_number(function):

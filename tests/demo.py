@@ -16,7 +16,8 @@ import termios
 import threading
 
 ROOT = os.path.dirname(os.path.dirname(os.path.abspath(__file__)))
-DEMO = [os.path.join(ROOT, "tests", "run.sh"), "demo"]
+RUN = os.path.join(ROOT, "tests", "run.sh")
+DEMO = subprocess.run([RUN, "--words", "demo"], stdout=subprocess.PIPE, text=True, check=True).stdout.splitlines()
 JUDGE = sys.argv[1:]
 SEED = 1
 

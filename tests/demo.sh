@@ -1,6 +1,6 @@
 #!/usr/bin/env bash
 # The demo on cut pipes, on inputs that fail, and against the Rust original's pipeline where its source and rustc are at
-# hand. It needs target/bin/demo, which `make demo` makes.
+# hand. It needs crates/demo/out/demo, which `make demo` makes.
 set -eu
 cd "$(dirname "$0")/.."
 tests/need.sh python3 rt

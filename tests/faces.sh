@@ -8,7 +8,7 @@
 set -euo pipefail
 cd "$(dirname "$0")/.."
 tests/need.sh python3 nm objdump diff cmp
-for made in build/libthreshlantern.a target/bin/demo; do
+for made in build/libthreshlantern.a crates/demo/out/demo build/demo; do
   if [ ! -f "$made" ]; then
     echo "faces: $made is missing; 'make lib' and 'make demo' make both" >&2
     exit 2
@@ -214,10 +214,7 @@ if [ ! -f "$archive" ]; then
   exit 0
 fi
 tests/run.sh demo < captures/alarm.cu8 > "$work/demo"
-tests/program.sh demo
-if [ "$(uname -m)" = x86_64 ]; then
-  same "build/demo, run as it is," build/demo
-fi
+same "build/demo, run as it is," build/demo
 c_face
 empty
 tests/stack.py

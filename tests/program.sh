@@ -1,17 +1,25 @@
 #!/usr/bin/env bash
-# Writes build/NAME, the program that rt proved and compiled: tests/program.sh NAME.
+# Proves and compiles the program NAME, and writes build/NAME: tests/program.sh NAME.
 #
-# On x86-64 it is linked here, against this machine's C library, so that it runs without the toolchain. What rt links itself
-# asks for the C library of the toolchain, which an older system does not have: that one is copied where there is no compiler
-# to link with, and on a machine that is not x86-64.
+# build/NAME is linked here, against this machine's C library, and is for every x86-64 processor. So it runs without the
+# toolchain. What rt links itself, crates/NAME/out/NAME, asks for the C library of the toolchain, which an older system does
+# not have: that one is copied where there is no compiler to link with, and on a machine that is not x86-64.
 set -euo pipefail
 cd "$(dirname "$0")/.."
 tests/need.sh rt
-guide=$(rt doc)
+out=crates/$1/out
+rm -f "$out/$1" "$out/$1.o"
+# rt runs what it has built, and on an older system that fails: whether it was built is told by the files.
+(cd "crates/$1" && rt run --cpu x86-64) </dev/null >/dev/null || true
+if [ ! -x "$out/$1" ]; then
+  echo "program: $1 was not built" >&2
+  exit 1
+fi
 mkdir -p build
-if [ "$(uname -m)" = x86_64 ] && [ -f "target/obj/$1.o" ] && command -v cc >/dev/null 2>&1; then
-  cc "target/obj/$1.o" "${guide%/docs/*}/lib/libos_c.a" -lm -o "build/$1"
+if [ "$(uname -m)" = x86_64 ] && command -v cc >/dev/null 2>&1; then
+  guide=$(rt doc)
+  cc "$out/$1.o" "${guide%/*}"/c/lib{os,libc}_c.a -lm -o "build/$1"
 else
-  cp "target/bin/$1" build/
+  cp "$out/$1" build/
   echo "program: build/$1 was not linked here, and asks for the toolchain's C library"
 fi

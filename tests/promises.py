@@ -60,6 +60,8 @@ def public_functions(crate):
     root = read(src + '/lib.rt')
     modules = set(re.findall(r'^pub mod (\w+);', root, re.M))
     passed_on = set(re.findall(r'^pub use (?:\w+::)*(\w+);', root, re.M))
+    for group in re.findall(r'^pub use (?:\w+::)*\{([^}]*)\};', root, re.M):
+        passed_on |= set(re.findall(r'\w+', group))
     types = set(re.findall(r'^pub (?:struct|enum) (\w+)', root, re.M))
     for file in sorted(os.listdir(src)):
         here = file[:-len('.rt')]
@@ -86,11 +88,14 @@ def only_theorems():
     found = {}
     for file in sorted(f for f in os.listdir(THEOREMS) if f.startswith('Only')):
         text = read(THEOREMS + '/' + file)
-        alias = {a: crate + below for crate, below, a in re.findall(r'^use Rattle·(\w+)\.proofs((?:\.\w+)?) as ([\w-]+)$', text, re.M)}
+        use = r'^use Rattle\.(\w+)\.%s((?:\.\w+)?) as ([\w-]+)$'
+        proofs = {a: crate + below for crate, below, a in re.findall(use % 'proofs', text, re.M)}
+        says = {a: crate + below for crate, below, a in re.findall(use % r'specs\.contracts', text, re.M)}
         for theorem, ended, learnt in re.findall(r'^pub ([\w-]+) : NoSecond (\S+)\.ended (\S+)\.Reads\.Learnt$', text, re.M):
             head, _, rest = ended.partition('.')
-            if ended == learnt and head in alias:
-                found[alias[head] + '.' + rest] = theorem
+            of, _, same = learnt.partition('.')
+            if rest == same and head in says and says[head] == proofs.get(of):
+                found[proofs[of] + '.' + rest] = theorem
     return found
 
 
@@ -208,16 +213,16 @@ def checked():
 PLANTS = [
     (PAGE, r'\n\| `Nco::reset` .*', '', 'Nco::reset is in no table'),
     (PAGE, '`tl_nco_mix`', '`tl_nco_mixed`', 'tl_nco_mixed is no public function'),
-    (PAGE, '`not-untouched`', '`not-touched`', 'not-touched is not declared'),
+    (PAGE, '`not_untouched`', '`not_touched`', 'not_touched is not declared'),
     (PAGE, 'agc/proofs/Stays.antt', 'agc/proofs/Stay.antt', 'there is no agc/proofs/Stay.antt'),
-    (PAGE, '`madeWithFactor`', '`made`', 'does not name made'),
-    (PAGE, r'\| `agc-new` \|', '| `agc-process` |', 'the theorem of Agc::new'),
-    (PAGE, r'`nco-mix` \| `nco-mix`', '`nco-mix` | `nco-reset`', 'nco-reset does not speak of mixed'),
+    (PAGE, '`made_with_factor`', '`made`', 'does not name made'),
+    (PAGE, r'\| `agc_new` \|', '| `agc_process` |', 'the theorem of Agc::new'),
+    (PAGE, r'`nco_mix` \| `nco_mix`', '`nco_mix` | `nco_reset`', 'nco_reset does not speak of mixed'),
     (PAGE, '`made` in `dc_remover/specs/State.antt`', '`made` in `dc_remover/specs/Step.antt`', 'made is not declared in'),
-    ('crates/stage/src/numbers.rt', r'pub fn even\(n: usize\) -> bool', 'pub fn even(n: usize) -> bool\n    requires { ⌜ n ≡ 0 ⌝ }', 'stage::even has no ensures, or a requires'),
+    ('crates/stage/src/numbers.rt', r'pub fn even\(n: usize\) -> bool', 'pub fn even(n: usize) -> bool\n    requires { n ≡ 0 }', 'stage::even has no ensures, or a requires'),
     ('crates/agc/src/process.rt', 'pub fn process', 'pub fn processed', 'Agc::processed is in no table'),
-    (THEOREMS + '/OnlyStages.antt', r'agc\.process\.ended agc\.process\.Reads', 'agc.process.ended agc.new.Reads', 'the contract of Agc::process'),
-    (THEOREMS + '/OnlyC.antt', r'pub tl-agc-new :', 'tl-agc-new :', 'the contract of tl_agc_new'),
+    (THEOREMS + '/OnlyStages.antt', r'agc-says\.process\.ended agc\.process\.Reads', 'agc-says.process.ended agc.new.Reads', 'the contract of Agc::process'),
+    (THEOREMS + '/OnlyC.antt', r'pub tl_agc_new :', 'tl_agc_new :', 'the contract of tl_agc_new'),
 ]
 
 

@@ -2,7 +2,7 @@
 """Can the replay of the stored answers fail? Spoils the file, runs the program, and holds its sums to what must be left.
 
 First the answer of every case is spoilt, so none may agree; then the last word that tells a slice after the call, so
-only the cases without one may. It needs target/bin/vectors, which `rt check vectors` makes.
+only the cases without one may. It needs crates/vectors/out/vectors, which `rt ci` makes.
 """
 import collections
 import os

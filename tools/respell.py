@@ -36,6 +36,18 @@ OTHER = {
     'all-finite': 'only_all_finite',
 }
 
+# Variables and import names that are spelled alike; they are bound where they stand.
+BOUND = {
+    'qHistory': 'q_history',
+    'iHistory': 'i_history',
+    'outQ': 'out_q',
+    'avgI': 'avg_i',
+    'avgQ': 'avg_q',
+    'meanI': 'mean_i',
+    'meanQ': 'mean_q',
+    'hilbertTapsAllowed': 'hilbert_allowed',
+}
+
 
 def files(*endings):
     for folder, folders, names in os.walk('crates'):
@@ -47,7 +59,8 @@ def files(*endings):
 
 def made_here(path):
     """Whether the file declares names of ours: not one that answers the goals of a function."""
-    return path.endswith('.antt') and not path.endswith(('/Proof.antt', '/Answers.antt', '/Invariants.antt'))
+    answers = '/proofs/' in path and path.endswith(('/Proof.antt', '/Answers.antt', '/Invariants.antt'))
+    return path.endswith('.antt') and not answers
 
 
 def snake(name):
@@ -113,6 +126,8 @@ def main(words):
             text = re.sub(r'(?m)^(pub )?%s (?=:|=|\w+ )' % name, lambda m: (m.group(1) or '') + alone[name] + ' ', text) if path.endswith('.antt') and made_here(path) else text
         if path.endswith('.antt'):
             after = word.sub(lambda m: new[m.group(1)], text)
+            for name in BOUND:
+                after = re.sub(r'(?<!%s)%s(?!%s)' % (WORD, name, WORD), BOUND[name], after)
         else:
             # in code a dash is a minus
             after = word.sub(lambda m: m.group(1) if '-' in m.group(1) and path.endswith('.rt') else new[m.group(1)], text)

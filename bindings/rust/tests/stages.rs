@@ -289,6 +289,6 @@ fn outputs_are_reused() {
 
 #[test]
 fn errors_tell() {
-    assert_eq!((Error::Setting.number(), Error::Room.number()), (1, 5));
+    assert_eq!(Error::Room as u32, 5);
     assert_eq!(Error::Limit.to_string(), "more than 262,144 elements");
 }

@@ -23,7 +23,7 @@ agc_step s i q = with_gain i q (gain_after s (magnitude_of i q))
 -- what the cases of a step mean: what is put out, and the state after it
 abbrev pub agc_means : Agc → AgcStep → Answer (Float × Float) Agc
 agc_means s agc-step.Struck = struck
-agc_means s (agc-step.Kept out_i outQ gain) = kept (out_i, outQ) (record { gain = gain; target = s.target; attack = s.attack; decay = s.decay })
+agc_means s (agc-step.Kept out_i out_q gain) = kept (out_i, out_q) (record { gain = gain; target = s.target; attack = s.attack; decay = s.decay })
 
 -- the step of a run
 abbrev pub agc_answer : Agc → Float × Float → Answer (Float × Float) Agc

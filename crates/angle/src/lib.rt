@@ -10,5 +10,6 @@
 pub mod arc;
 mod flat;
 pub mod lanes;
+mod rest;
 pub mod single;
 pub mod turn;

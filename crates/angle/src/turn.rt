@@ -27,7 +27,7 @@ pub fn cosine(x: f64) -> f64
 pub fn reduce(x: f64) -> f64
     ensures { result ≡ reduced x }
 {
-    pull(x % TAU)
+    pull(crate::rest::rest(x))
 }
 
 // One turn taken off above PI, or put on below -PI; never at PI or -PI itself.

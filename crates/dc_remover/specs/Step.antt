@@ -27,9 +27,9 @@ mono_step alpha avg x =
 
 -- of a pair, one bad half strikes both
 unfoldable pub pair_step : Float → Float → Float → Float → Float → PairStep
-pair_step alpha avgI avgQ i q =
-    cond (both_finite (less_mean alpha avgI i) (less_mean alpha avgQ q) && both_finite (mean_after alpha avgI i) (mean_after alpha avgQ q))
-    (Pair-step.Kept (less_mean alpha avgI i) (less_mean alpha avgQ q) (mean_after alpha avgI i) (mean_after alpha avgQ q))
+pair_step alpha avg_i avg_q i q =
+    cond (both_finite (less_mean alpha avg_i i) (less_mean alpha avg_q q) && both_finite (mean_after alpha avg_i i) (mean_after alpha avg_q q))
+    (Pair-step.Kept (less_mean alpha avg_i i) (less_mean alpha avg_q q) (mean_after alpha avg_i i) (mean_after alpha avg_q q))
     Pair-step.Struck
 
 -- what the cases of a step mean: what is put out, and the state after it. A mono sample has the mean of I, and that of Q stays
@@ -39,7 +39,7 @@ mono_means s (mono-step.Kept out mean) = kept out (record { avg_i = mean; avg_q 
 
 abbrev pub pair_means : DcRemover → PairStep → Answer (Float × Float) DcRemover
 pair_means s Pair-step.Struck = struck
-pair_means s (Pair-step.Kept out_i outQ meanI meanQ) = kept (out_i, outQ) (record { avg_i = meanI; avg_q = meanQ; alpha = s.alpha })
+pair_means s (Pair-step.Kept out_i out_q mean_i mean_q) = kept (out_i, out_q) (record { avg_i = mean_i; avg_q = mean_q; alpha = s.alpha })
 
 -- the step of a run
 abbrev pub mono_answer : DcRemover → Float → Answer Float DcRemover

@@ -1,23 +1,21 @@
 -- The cut law: however a stream is cut into calls that are accepted, their outputs in a row are those of the definition over the whole stream,
 -- and the last hands on its phase and its history. Assumes nothing.
-use Prim.Native.Nat.{ℕ, zero, suc, ◌+◌, ◌<◌}
+use Prim.Native.Nat.{ℕ, ◌+◌, ◌<◌}
 use native.Mathlib.Omega.{arith}
-use mathlib.Core.Path.{◌≡◌, refl, sym, ap, ◌∙◌}
-use mathlib.Core.List.{List, [], ◌∷◌, ◌++◌}
-use lib.ListN.{length, take}
+use mathlib.Core.Path.{◌≡◌, refl, ap}
+use mathlib.Core.List.{List}
+use lib.ListN.{length}
 use lib.Seq.{take_at}
 use lib.Ieee.{Float}
 use Rattle.stage.proofs.InTurn.{Cuttable, Runs, calls_outs, calls_end, any_calls}
 use Rattle.stage.proofs.Filling.{length_counted}
 use Rattle.stage.proofs.Refusals.{run_gives, answers_none}
-use Rattle.fir.specs.Filter.{Memory, count_of, outputs, filter_outs, filter_end}
+use Rattle.fir.specs.Filter.{count_of, outputs}
 use Rattle.fir.specs.Dot.{every_tap}
 use Rattle.fir.proofs.Cut.{outs_of_none, end_of_none, outs_cut, end_cut}
 use Rattle.decimator.specs.Process.{memory, process_refusal, accepted, processed}
-use Rattle.decimator.specs.Answers.{answer, at}
+use Rattle.decimator.specs.Answers.{answer}
 use Rattle.decimator.specs.Stream.{Call, Handed, handed, gives, stream_of, stream_outs, stream_end, AllAccepted, called_outs, called_end}
-use Rattle.decimator.specs.declared.Decimator.{Decimator}
-use Rattle.decimator.specs.declared.Decimated.{Decimated}
 use Rattle.decimator.proofs.Accepting.{process_sound}
 
 -- ---- one call

@@ -5,6 +5,8 @@
 // what the calls give, on acceptance and on refusal, by the rules of `specs/Rules.antt`; `specs/Cases.antt` has the
 // marked cases 5, 6 and 7. `proofs/Cut.antt` and `proofs/Damage.antt` show demand 3: a stream may be cut at will
 // into calls, and damage to it passes. No public function here has a `requires`.
+#![tactic(auto)]
+
 mod making;
 mod processing;
 mod rules;

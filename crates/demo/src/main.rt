@@ -4,10 +4,14 @@
 // `receiver` does the work and says what it gives; this program only moves bytes. It reads what the pipe has, up to a
 // block, keeps an odd byte for the next turn, and so writes the same bytes however the input is cut. Its memory is that
 // of one block. No input writes nothing. An odd last byte gives no sample and the line `odd input` on descriptor 2,
-// where a read or a write that fails is told too. A program has no exit status.
+// where a read or a write that fails is told too. The exit status is 0 all the same.
+#![tactic(auto)]
+
 ghost use Rattle.std.specs.Prelude.{◌≤◌, length};
 
 use receiver::{BLOCK, Receiver, SOUND};
+use std::io;
+use std::io::Read;
 
 // What goes from one turn to the next: the receiver, and a byte that waits for its pair.
 #[derive(Clone, Copy)]
@@ -18,13 +22,15 @@ struct Place {
     byte: u8,
 }
 
-fn main() {
+fn main(rt: HostRuntime) {
     let mut taps: [f32; 121] = [0.0; 121];
     let mut i_history: [f32; 120] = [0.0; 120];
     let mut q_history: [f32; 120] = [0.0; 120];
     let mut block: [u8; BLOCK] = [0; BLOCK];
     let made = Receiver::new(&mut taps, &mut i_history, &mut q_history);
     listen(
+        &rt,
+        &mut rt.stdin(),
         made.state,
         &taps,
         &mut i_history,
@@ -33,9 +39,11 @@ fn main() {
     );
 }
 
-// A proved loop has to end, and nothing says that an input does. So the loop counts its turns down, from a number that
-// no run uses up.
+// A proved loop has to end, and nothing says that an input does. So the turns are counted, up to a number that no run
+// reaches.
 fn listen(
+    rt: &(impl Print + Eprint + AllocGlobal),
+    input: &mut impl Read,
     receiver: Receiver,
     taps: &[f32],
     i_history: &mut [f32],
@@ -50,15 +58,18 @@ fn listen(
         odd: false,
         byte: 0,
     };
-    let mut turns = u64::MAX;
-    while turns > 0 && at.going {
-        at = turn(at, taps, i_history, q_history, block);
-        turns -= 1;
+    for _ in 0..u64::MAX {
+        if !at.going {
+            break;
+        }
+        at = turn(rt, input, at, taps, i_history, q_history, block);
     }
 }
 
 // One read, and the sound of the whole pairs that there are then.
 fn turn(
+    rt: &(impl Print + Eprint + AllocGlobal),
+    input: &mut impl Read,
     at: Place,
     taps: &[f32],
     i_history: &mut [f32],
@@ -69,23 +80,27 @@ fn turn(
 {
     put_first(block, at.byte);
     let held = waiting(at.odd);
-    let got = libc::read(libc::STDIN_FILENO, &mut block[held..]);
-    if got < 0 {
-        os::fail(b"read");
-        return ended(at);
-    }
-    if got == 0 {
-        if at.odd {
-            io::write_all(libc::STDERR_FILENO, b"odd input\n");
+    match input.read(&mut block[held..]) {
+        Ok(0) => {
+            if at.odd {
+                let _ = rt.eprintln("odd input");
+            }
+            ended(at)
         }
-        return ended(at);
+        Ok(got) => {
+            let n = held + got;
+            play(rt, at, taps, i_history, q_history, &block[0..n])
+        }
+        Err(error) => {
+            let _ = fail(rt, "read", error);
+            ended(at)
+        }
     }
-    let n = held + io::count(got, &block[held..]);
-    play(at, taps, i_history, q_history, &block[0..n])
 }
 
 // The sound of the whole pairs of these bytes. An odd one waits for the next.
 fn play(
+    rt: &(impl Print + Eprint + AllocGlobal),
     at: Place,
     taps: &[f32],
     i_history: &mut [f32],
@@ -99,8 +114,8 @@ fn play(
         .receiver
         .receive(taps, i_history, q_history, &bytes[0..whole], &mut sound);
     let count = done.count;
-    if !io::write_all(libc::STDOUT_FILENO, &sound[0..count]) {
-        os::fail(b"write");
+    if let Err(error) = rt.write_all(&sound[0..count]) {
+        let _ = fail(rt, "write", error);
         return ended(at);
     }
     let receiver = done.state;
@@ -139,5 +154,20 @@ fn ended(at: Place) -> Place {
         receiver,
         odd: at.odd,
         byte: at.byte,
+    }
+}
+
+// A line on descriptor 2: what failed, and why.
+fn fail(rt: &(impl Eprint + AllocGlobal), what: &str, error: io::Error) -> io::Result<()> {
+    let text = format!(in rt.alloc(); "{error}")?;
+    let why = without_number(text.as_str());
+    eprintln!(rt; "{what}: {why}")
+}
+
+// The system's words for an error, without its number, which `io::Error` writes after them.
+fn without_number(text: &str) -> &str {
+    match text.split_once(" (os error ") {
+        Some((before, _)) => before,
+        None => text,
     }
 }

@@ -5,6 +5,8 @@
 // `specs/Taps.antt` has the definition of the taps, `specs/Making.antt` and `specs/Process.antt` what each
 // call gives, on acceptance and on refusal, `specs/Cases.antt` worked values; proofs/Cut.antt and
 // proofs/Damage.antt have the theorems on streams. No public function here has a `requires`.
+#![tactic(auto)]
+
 mod making;
 mod processing;
 mod rules;

@@ -76,7 +76,7 @@ unfolding narrowed
 narrow_zero s = refl
 
 -- ---- what the format holds stays as it is
-round_kept : (f : Format) (s : Bool) (x : Float) (w : ℕ) → T (fits f x) → HasValue x s w (2 ^ low f)
+pub round_kept : (f : Format) (s : Bool) (x : Float) (w : ℕ) → T (fits f x) → HasValue x s w (2 ^ low f)
     → round f s w (2 ^ low f) ≡ x
 round_kept f s x w F H =
     let (a, i, A, e) = on_grid f s x w F H in

@@ -6,6 +6,7 @@ use mathlib.Core.List.{List, [], ◌∷◌}
 use lib.ListN.{get_or, take}
 use lib.Ieee.{Float, nan, binary32, of_bits, to_bits, of_int}
 use denote.Ref.{Bor}
+use denote.MutBor.{MutBor}
 use Rattle.stage.specs.Floats.{plus_zero, one}
 use Rattle.stage.specs.Named.{quarter, half}
 use Rattle.stage.specs.Call.{Given}
@@ -19,9 +20,12 @@ use Rattle.decimator.specs.Cases.{case_5, case_7}
 use Rattle.promises.specs.Marked.{whole, taps}
 use Rattle.promises.specs.Frauds.{RemoverAnswer, left_by, DecimatorAnswer, outputs_of, FirstBlock, ThirdBlock}
 
--- a slice that holds these, wherever it stands
+-- a slice that holds these, wherever it stands, lent to be read and lent to be written
 abbrev lend : List Float → Bor (List Float)
 lend xs = record { ref_ptr = (0, 0); now = xs }
+
+abbrev lend_mut : List Float → MutBor (List Float)
+lend_mut xs = record { ref_ptr = (0, 0); ghost_name = 0; now = xs }
 
 -- ---- whatever meets the contract gives what the definition gives
 
@@ -37,7 +41,7 @@ pub honest_removed : (samples : List Float) → RemoverAnswer samples
 honest_removed samples =
     let g = process_mono (fresh half) samples in
     record {
-      handed = (([], tt), (fresh half, (lend samples, tt)));
+      handed = (([], tt), (fresh half, (lend_mut samples, tt)));
       state_is = refl;
       samples_are = refl;
       answer = (record { refusal = g.refusal; state = g.state; struck = g.struck }, (tt, (g.left, tt)));
@@ -49,7 +53,7 @@ honest_decimated phase history input output =
     let g = processed (record { factor = 2; phase = phase }) taps history input output in
     record {
       handed =
-          (([], ([], ([], ([], tt)))), (record { factor = 2; phase = phase }, (lend taps, (lend history, (lend input, (lend output, tt))))));
+          (([], ([], ([], ([], tt)))), (record { factor = 2; phase = phase }, (lend taps, (lend_mut history, (lend input, (lend_mut output, tt))))));
       state_is = refl;
       taps_are = refl;
       history_is = refl;

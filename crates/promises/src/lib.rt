@@ -1,3 +1,5 @@
+#![tactic(auto)]
+
 // What the customer was promised, in one place, each promise proved by citing the stage's own theorem.
 //
 // Document 01, "Five numbers", "Marked cases" and "Holding the promises to account". There is no code here: the

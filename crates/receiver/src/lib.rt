@@ -6,6 +6,8 @@
 // a stream of bytes gives, by the definitions that the stages' own contracts cite; `specs/Making.antt` and
 // `specs/Receive.antt` say what the calls give, on acceptance and on refusal. `proofs/Cut.antt` shows that a stream may
 // be cut between any two pairs. No public function here has a `requires`.
+#![tactic(auto)]
+
 mod bytes;
 mod making;
 mod path;

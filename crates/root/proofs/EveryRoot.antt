@@ -18,7 +18,7 @@ use Rattle.number.proofs.Pack.{split, pow_lt_back}
 use Rattle.number.proofs.Adding.{same_value}
 use Rattle.number.proofs.Grid.{on_grid, bounded, counted, is_finite, one_sign, one_count, one_fraction}
 use Rattle.root.specs.Root.{rooted, nearest_root}
-use Rattle.root.specs.EveryRoot.{UnderHalf, OverHalf, Nearer, NearerThan, NearestToRoot, RootOf}
+use Rattle.root.specs.EveryRoot.{UnderHalf, OverHalf, NearerToRoot, NearerThan, NearestToRoot, RootOf}
 use Rattle.root.proofs.Fits.{rooted_fits}
 use Rattle.root.proofs.Squares.{sq_mono}
 use Rattle.root.proofs.Sides.{OnSideOf}
@@ -82,7 +82,7 @@ module _ (f : Format) (x : Float) (a c : ℕ) (F : T (fits f x)) (C : 0 < c) (A 
   over : (d : ℕ) → d * d < 4 * n → OverHalf f a c d
   over d h = subst (λ (w : ℕ). d * d * c < w) in_parts (mul-lt-mul_of_pos_right h C)
 
-  nearer : (t : Bool) (y : Float) (w : ℕ) → T (fits f y) → (y ≡ r → ⊥) → HasValue y t w unit → Nearer f a c v t w
+  nearer : (t : Bool) (y : Float) (w : ℕ) → T (fits f y) → (y ≡ r → ⊥) → HasValue y t w unit → NearerToRoot f a c v t w
   nearer false y w Y d h = go (split v w) (split w v)
     where
       on_side : OnSideOf n v w
@@ -91,7 +91,7 @@ module _ (f : Format) (x : Float) (a c : ℕ) (F : T (fits f x)) (C : 0 < c) (A 
       is_r : v ≡ w → y ≡ r
       is_r e = same_value f false y r w Y (rooted_fits f x F) h (subst (λ (w : ℕ). HasValue r false w unit) e best.1)
 
-      go : (v < w) ⊎ (w ≤ v) → (w < v) ⊎ (v ≤ w) → Nearer f a c v false w
+      go : (v < w) ⊎ (w ≤ v) → (w < v) ⊎ (v ≤ w) → NearerToRoot f a c v false w
       go (inl l) o = inl (l, under (v + w) (on_side.0 l))
       go (inr l) (inl g) = inr (g, over (v + w) (on_side.1 g))
       go (inr l) (inr g) = absurd (d (is_r (le_antisymm g l)))
@@ -122,10 +122,10 @@ only_nearest f a c x y F Y (v, P, p) (w, Q, q) = go (split v w) (split w v)
     same : x ≡ y → v ≡ w
     same e = one_count y false false v w unit (subst (λ (z : Float). HasValue z false v unit) e P) Q
 
-    found : (v w : ℕ) (y : Float) → HasValue y false w unit → NearerThan f a c v y → Nearer f a c v false w
+    found : (v w : ℕ) (y : Float) → HasValue y false w unit → NearerThan f a c v y → NearerToRoot f a c v false w
     found v w y W (t, i, h, n) =
-        subst (λ (i : ℕ). Nearer f a c v false i) (one_count y t false i w unit h W)
-        (subst (λ (t : Bool). Nearer f a c v t i) (one_sign y t false i w unit unit h W) n)
+        subst (λ (i : ℕ). NearerToRoot f a c v false i) (one_count y t false i w unit h W)
+        (subst (λ (t : Bool). NearerToRoot f a c v t i) (one_sign y t false i w unit unit h W) n)
 
     clash : (n c v w : ℕ) → 4 * n < (v + w) * (v + w) * c → (w + v) * (w + v) * c < 4 * n → ⊥
     clash n c v w h k =
@@ -138,7 +138,7 @@ only_nearest f a c x y F Y (v, P, p) (w, Q, q) = go (split v w) (split w v)
     cross : {v w : ℕ} → v < w → w < v → ⊥
     cross l g = omega arith
 
-    both : Nearer f a c v false w → Nearer f a c w false v → ⊥
+    both : NearerToRoot f a c v false w → NearerToRoot f a c w false v → ⊥
     both (inl (l, h)) (inl (g, k)) = cross l g
     both (inl (l, h)) (inr (g, k)) = clash (a * unit * unit) c v w h k
     both (inr (l, h)) (inl (g, k)) = clash (a * unit * unit) c w v k h

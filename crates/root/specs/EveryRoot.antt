@@ -18,13 +18,13 @@ OverHalf f a c d = d * d * c < 4 * (a * 2 ^ low f * 2 ^ low f)
 -- v smallest values are nearer to √(a / c) than ±w of them: the two differ, and the root is on v's side of the middle
 -- between them. That is half of v + w, and for -w half of v - w. (On whole numbers v - w is 0 where w is the larger.
 -- The middle is below zero then, and a root above zero is on v's side.)
-abbrev pub Nearer : Format → (a c v : ℕ) → Bool → ℕ → Type 0
-Nearer f a c v false w = ((v < w) × UnderHalf f a c (v + w)) ⊎ ((w < v) × OverHalf f a c (v + w))
-Nearer f a c v true w = (0 < v + w) × OverHalf f a c (v - w)
+abbrev pub NearerToRoot : Format → (a c v : ℕ) → Bool → ℕ → Type 0
+NearerToRoot f a c v false w = ((v < w) × UnderHalf f a c (v + w)) ⊎ ((w < v) × OverHalf f a c (v + w))
+NearerToRoot f a c v true w = (0 < v + w) × OverHalf f a c (v - w)
 
 -- the same of a value y, which is ±w smallest values
 abbrev pub NearerThan : Format → (a c v : ℕ) → Float → Type 0
-NearerThan f a c v y = (t : Bool) × (w : ℕ) × HasValue y t w (2 ^ low f) × Nearer f a c v t w
+NearerThan f a c v y = (t : Bool) × (w : ℕ) × HasValue y t w (2 ^ low f) × NearerToRoot f a c v t w
 
 -- r is finite and not below zero, and it is nearer to √(a / c) than every other finite value that the format holds.
 -- There is no tie: no root lies in the middle between two values.

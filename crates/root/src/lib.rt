@@ -1,10 +1,11 @@
 // The square root of an f32.
 //
 // Document 01, "Numbers under the stages": IEEE 754, to the nearest and a tie to even; -0 gives -0,
-// below zero NaN. `specs/Root.antt` has the definition, `specs/Nearest.antt` says without a method what
-// IEEE 754 asks, `proofs/Told.antt` shows that the definition does so, and `specs/Cases.antt` has the
-// marked cases 3 and 4. The root is worked out from the bits by whole numbers. No public function here
-// has a `requires`.
+// below zero NaN. `specs/Root.antt` has the definition. `specs/Nearest.antt` says without a method what
+// IEEE 754 asks above zero, and `specs/EveryRoot.antt` what it asks of every float; `proofs/Told.antt` and
+// `proofs/EveryRoot.antt` show that the definition does so. The marked cases 3 and 4 are worked out in
+// `Cases.antt`. The root is worked out from the bits by whole numbers. No public function here has a
+// `requires`.
 #![tactic(auto)]
 
 ghost use Rattle.std.specs.Prelude.{◌≡◌, ◌+◌, ◌*◌, ◌^◌, ◌<◌};

@@ -1,6 +1,6 @@
 -- The cut law: however a stream is cut into calls that are accepted, their outputs in a row are those of the definition over the whole stream,
 -- and the last hands on its histories. Assumes nothing.
-use Prim.Native.Nat.{ℕ, ◌/◌}
+use Prim.Native.Nat.{ℕ}
 use native.Mathlib.Omega.{arith}
 use mathlib.Core.Path.{◌≡◌, refl, ap, ◌∙◌}
 use mathlib.Core.List.{List}

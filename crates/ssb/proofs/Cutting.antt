@@ -1,6 +1,6 @@
 -- The definition over pairs can be cut anywhere: both filters can, and what is mixed place by place can. Assumes nothing.
-use Prim.Native.Nat.{ℕ, ◌+◌}
-use mathlib.Core.Path.{◌≡◌, refl, sym, ap, ◌∙◌}
+use Prim.Native.Nat.{◌+◌}
+use mathlib.Core.Path.{◌≡◌, refl, sym, ◌∙◌}
 use mathlib.Core.Bool.{Bool}
 use mathlib.Core.List.{List, [], ◌++◌}
 use lib.ListN.{length}
@@ -12,7 +12,7 @@ use Rattle.fir.specs.Filter.{kept}
 use Rattle.fir.specs.Dot.{odd_taps}
 use Rattle.fir.specs.Each.{each_outs}
 use Rattle.fir.proofs.Each.{each_length, each_cuts}
-use Rattle.ssb.specs.Sideband.{Histories, histories, delay, mixed, ssb_outs, ssb_end}
+use Rattle.ssb.specs.Sideband.{Histories, histories, delay, ssb_outs, ssb_end}
 use Rattle.ssb.proofs.mixing.Mixed.{mixed_length, mixed_append}
 
 -- histories that fit: of Q taps less one, of I 32

@@ -14,7 +14,7 @@ use Rattle.fir.specs.Dot.{odd_taps}
 use Rattle.fir.specs.Each.{each_outs}
 use Rattle.fir.specs.Damage.{DifferWithin, Unseen}
 use Rattle.fir.proofs.Each.{each_passes, each_forgotten}
-use Rattle.ssb.specs.Answers.{forSideband}
+use Rattle.ssb.specs.Answers.{for_sideband}
 use Rattle.ssb.specs.Sideband.{Histories, histories, delay, ssb_outs, ssb_end}
 use Rattle.ssb.specs.Stream.{Call, handed, stream_of, AllAccepted, called_outs, called_end, fresh_for}
 use Rattle.ssb.proofs.Halves.{differ_firsts, differ_seconds}
@@ -65,7 +65,7 @@ module _ (usb : Bool) (taps : List Float) (a b : ℕ) (t : length taps ≡ 65) (
   forgotten : b + 64 ≤ length (stream_of xs) → called_end taps (fresh_for usb) xs ≡ called_end taps (fresh_for usb) ys
   forgotten far =
       rw ((cut taps (fresh_for usb) xs okx).1, (cut taps (fresh_for usb) ys oky).1)
-      (ap (handed (forSideband usb)) (ends_alike usb taps a b (fresh_for usb).held (stream_of xs) (stream_of ys) t fit differ far))
+      (ap (handed (for_sideband usb)) (ends_alike usb taps a b (fresh_for usb).held (stream_of xs) (stream_of ys) t fit differ far))
 
 -- ---- the theorems
 

@@ -6,9 +6,9 @@ use Rattle.ssb.specs.declared.SsbDone.{SsbDone}
 abbrev pub answer : ℕ → SsbDemodulator → ℕ → SsbDone
 answer number d count = record { refusal = number; state = d; count = count }
 
-abbrev pub forSideband : Bool → SsbDemodulator
-forSideband usb = record { is_usb = usb }
+abbrev pub for_sideband : Bool → SsbDemodulator
+for_sideband usb = record { is_usb = usb }
 
 -- the record of zeros that a refused making call answers
 abbrev pub none : SsbDemodulator
-none = forSideband false
+none = for_sideband false

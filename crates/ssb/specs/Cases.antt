@@ -5,7 +5,7 @@ use Rattle.std.specs.Float.Ieee.{add, sub, mul, of_bits, of_int}
 use Rattle.stage.specs.Floats.{plus_zero, whole}
 use Rattle.fir.specs.Filter.{count_of, kept, output_at, outputs}
 use Rattle.fir.specs.Dot.{odd_from}
-use Rattle.ssb.specs.Answers.{answer, forSideband, none}
+use Rattle.ssb.specs.Answers.{answer, for_sideband, none}
 use Rattle.ssb.specs.Sideband.{ssb_outs}
 use Rattle.ssb.specs.Making.{new_refusal, made}
 use Rattle.ssb.specs.Process.{process_refusal, processed}
@@ -18,16 +18,16 @@ zeros n = replicate n plus_zero
 
 abbrev given : Bool → SsbDone × List Float × List Float × List Float
 given usb =
-    processed (forSideband usb) (replicate 65 (whole 2)) (zeros 63 ++ whole 3 ∷ []) (whole 10 ∷ whole 20 ∷ zeros 30) (whole 5 ∷ whole 7 ∷ whole 6 ∷ whole 8 ∷ [])
+    processed (for_sideband usb) (replicate 65 (whole 2)) (zeros 63 ++ whole 3 ∷ []) (whole 10 ∷ whole 20 ∷ zeros 30) (whole 5 ∷ whole 7 ∷ whole 6 ∷ whole 8 ∷ [])
     (nan ∷ nan ∷ nan ∷ [])
 
 -- the newest Q meets an even tap, and so its sum comes with the next pair: 10 + 2 x 3 and 20 + 2 x 7; a place behind the outputs stays
-pub upper : given true ≡ (answer 0 (forSideband true) 2, zeros 61 ++ whole 3 ∷ whole 7 ∷ whole 8 ∷ [], zeros 30 ++ whole 5 ∷ whole 6 ∷ [], whole 16 ∷ whole 34 ∷ nan ∷ [])
+pub upper : given true ≡ (answer 0 (for_sideband true) 2, zeros 61 ++ whole 3 ∷ whole 7 ∷ whole 8 ∷ [], zeros 30 ++ whole 5 ∷ whole 6 ∷ [], whole 16 ∷ whole 34 ∷ nan ∷ [])
 unfolding whole ssb_outs outputs output_at count_of kept odd_from add sub mul of_bits of_int
 upper = refl
 
 -- 10 - 2 x 3 and 20 - 2 x 7
-pub lower : given false ≡ (answer 0 (forSideband false) 2, zeros 61 ++ whole 3 ∷ whole 7 ∷ whole 8 ∷ [], zeros 30 ++ whole 5 ∷ whole 6 ∷ [], whole 4 ∷ whole 6 ∷ nan ∷ [])
+pub lower : given false ≡ (answer 0 (for_sideband false) 2, zeros 61 ++ whole 3 ∷ whole 7 ∷ whole 8 ∷ [], zeros 30 ++ whole 5 ∷ whole 6 ∷ [], whole 4 ∷ whole 6 ∷ nan ∷ [])
 unfolding whole ssb_outs outputs output_at count_of kept odd_from add sub mul of_bits of_int
 lower = refl
 

@@ -12,8 +12,8 @@ use Rattle.ssb.specs.declared.SsbDone.{SsbDone}
 
 -- of the lengths of taps, histories, input and output: SETTING, LIMIT, LENGTH or ROOM
 abbrev pub process_refusal : ℕ → ℕ → ℕ → ℕ → ℕ → ℕ
-process_refusal taps qHistory iHistory n room =
-    refusal_no (taps_allowed taps) true (is_within n) (is_even n && lengths_fit taps qHistory iHistory) (leb (n / 2) room)
+process_refusal taps q_history i_history n room =
+    refusal_no (taps_allowed taps) true (is_within n) (is_even n && lengths_fit taps q_history i_history) (leb (n / 2) room)
 
 -- an accepted call: the answer, the histories of Q and I, and the output slice with the outputs over what it held
 abbrev pub accepted : SsbDemodulator → List Float → Histories → List Float → List Float → SsbDone × List Float × List Float × List Float
@@ -23,6 +23,6 @@ accepted d taps h input output =
 
 -- refused, nothing has changed
 abbrev pub processed : SsbDemodulator → List Float → List Float → List Float → List Float → List Float → SsbDone × List Float × List Float × List Float
-processed d taps qHistory iHistory input output =
-    let number = process_refusal (length taps) (length qHistory) (length iHistory) (length input) (length output) in
-    unless number (accepted d taps (histories qHistory iHistory) input output) (answer number d 0, qHistory, iHistory, output)
+processed d taps q_history i_history input output =
+    let number = process_refusal (length taps) (length q_history) (length i_history) (length input) (length output) in
+    unless number (accepted d taps (histories q_history i_history) input output) (answer number d 0, q_history, i_history, output)

@@ -4,4 +4,4 @@ use Rattle.fir.specs.Filter.{history_fits}
 
 -- 65 taps, a history of Q of taps less one, a history of I of 32
 abbrev pub lengths_fit : ℕ → ℕ → ℕ → Bool
-lengths_fit taps qHistory iHistory = eqb taps 65 && history_fits taps qHistory && eqb iHistory 32
+lengths_fit taps q_history i_history = eqb taps 65 && history_fits taps q_history && eqb i_history 32

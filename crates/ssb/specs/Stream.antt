@@ -1,9 +1,9 @@
 -- A stream handed to an SSB demodulator call by call, its taps the same throughout: the terms of the theorems on streams. Definitions only.
-use Rattle.std.specs.Prelude.{ℕ, Bool, List, take, replicate, Float}
+use Rattle.std.specs.Prelude.{Bool, List, take, replicate, Float}
 use Rattle.stage.specs.Floats.{plus_zero}
 use Rattle.stage.specs.Layout.{pairs}
 use Rattle.stage.specs.InTurn.{Given, inputs, Accepted, call_outs, call_end}
-use Rattle.ssb.specs.Answers.{forSideband}
+use Rattle.ssb.specs.Answers.{for_sideband}
 use Rattle.ssb.specs.Sideband.{Histories, histories, ssb_outs, ssb_end}
 use Rattle.ssb.specs.Process.{processed}
 use Rattle.ssb.specs.declared.SsbDemodulator.{SsbDemodulator}
@@ -55,4 +55,4 @@ called_end taps s calls = call_end (gives taps) s calls
 -- ---- from a fresh demodulator: before the stream there were zeros
 
 abbrev pub fresh_for : Bool → Handed
-fresh_for usb = handed (forSideband usb) (histories (replicate 64 plus_zero) (replicate 32 plus_zero))
+fresh_for usb = handed (for_sideband usb) (histories (replicate 64 plus_zero) (replicate 32 plus_zero))

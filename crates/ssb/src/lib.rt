@@ -7,6 +7,8 @@
 // refusal, by the rules of `specs/Rules.antt`; `specs/Cases.antt` has worked values. `proofs/Cut.antt` and
 // `proofs/Damage.antt` show demand 3: a stream may be cut at will into calls, and damage to it passes. No public
 // function here has a `requires`.
+#![tactic(auto)]
+
 mod chunk;
 mod making;
 mod mixing;

@@ -1,8 +1,10 @@
-// The C face: every public call under a C name that begins with `tl_`.
+// The C face as a library: every public call under a name that begins with `tl_`.
 //
-// A slice passes as a pointer and a length; states and answers pass as structs by value. Each function
-// here hands its arguments on to one public call of a stage and repeats that call's contract; no other
-// crate exports anything. `numbers.rt` has the number work, for comparing it with other libraries.
+// Each function here hands its arguments on to one public call of a stage and repeats that call's contract.
+// A library exports nothing, so `threshlantern_c`, the static library over this one, has the same functions for C.
+// `numbers.rt` has the number work, for comparing it with other libraries.
+#![tactic(auto)]
+
 pub mod conversion;
 pub mod demodulators;
 pub mod filters;

@@ -2,14 +2,13 @@
 use crate::case::after;
 use crate::words::count;
 use crate::{case, replay};
-use libc::STDOUT_FILENO;
 
 // Runs every case of the file and tells the sums.
-pub fn tell(names: &[u8], file: &[u8]) {
+pub fn tell(rt: &impl Print, names: &[u8], file: &[u8]) {
     let mut cases = [0u64; 64];
     let mut agree = [0u64; 64];
     run(file, &mut cases, &mut agree);
-    lines(names, &cases, &agree);
+    lines(rt, names, &cases, &agree);
 }
 
 // A case ends where the next one begins. The turns see to it that a file that leads nowhere ends too.
@@ -47,24 +46,22 @@ fn add(sums: &mut [u64; 64], i: usize, is_one: bool) {
 }
 
 // Each name has a line of 32 bytes.
-fn lines(names: &[u8], cases: &[u64; 64], agree: &[u64; 64]) {
+fn lines(rt: &impl Print, names: &[u8], cases: &[u64; 64], agree: &[u64; 64]) {
     let mut i: usize = 0;
     while i < 64 {
         if cases[i] > 0 {
-            line(names, i, agree[i], cases[i]);
+            line(rt, names, i, agree[i], cases[i]);
         }
         i += 1;
     }
 }
 
-fn line(names: &[u8], i: usize, agree: u64, cases: u64) {
+// Nothing is told of a line that cannot be written.
+fn line(rt: &impl Print, names: &[u8], i: usize, agree: u64, cases: u64) {
     let start = 32 * (i % 64);
     let end = start + 31;
     if end < names.len() {
-        io::write_all(STDOUT_FILENO, &names[start..end]);
-        io::print_decimal(STDOUT_FILENO, agree);
-        io::write_all(STDOUT_FILENO, b" of ");
-        io::print_decimal(STDOUT_FILENO, cases);
-        io::write_all(STDOUT_FILENO, b" agree\n");
+        let _ = rt.write_all(&names[start..end]);
+        let _ = println!(rt; "{agree} of {cases} agree");
     }
 }

@@ -1,5 +1,5 @@
 -- The Hilbert filter at 65 taps over a short block: it is not refused, and its sums fill the output. Assumes nothing.
-use Prim.Native.Nat.{ℕ, ◌≤◌}
+use Prim.Native.Nat.{◌≤◌}
 use native.Mathlib.Omega.{arith}
 use mathlib.Core.Path.{◌≡◌, refl, sym, ap, ◌∙◌}
 use mathlib.Core.List.{List, append-nil}
@@ -13,7 +13,7 @@ use Rattle.fir.specs.Filter.{kept}
 use Rattle.fir.specs.Dot.{odd_taps}
 use Rattle.fir.specs.Each.{each_outs}
 use Rattle.fir.proofs.Each.{each_length}
-use Rattle.hilbert.specs.Process.{process_refusal, accepted, processed}
+use Rattle.hilbert.specs.Process.{process_refusal, processed}
 use Rattle.hilbert.specs.declared.HilbertDone.{HilbertDone}
 
 -- outputs that fill a slice leave nothing of it

@@ -1,14 +1,14 @@
 -- The delay: the first samples of history and input in a row, as many as the input has. Assumes nothing.
-use Prim.Native.Nat.{ℕ, ◌+◌, ◌*◌, ◌≤◌, ◌<◌}
+use Prim.Native.Nat.{ℕ, ◌+◌, ◌*◌, ◌<◌}
 use native.Mathlib.Nat.{zero-add, add-zero, mul-one}
 use native.Mathlib.Omega.{arith}
-use mathlib.Core.Path.{◌≡◌, refl, sym, ap, ◌∙◌}
+use mathlib.Core.Path.{◌≡◌, refl, sym, ◌∙◌}
 use mathlib.Core.List.{List, ◌++◌}
 use lib.ListN.{length, get_or, take, drop, length-append}
 use lib.Seq.{length-take-le, get_or-take, get_or-drop, ext_get_or}
 use lib.Ieee.{Float, nan}
 use Rattle.stage.proofs.Counted.{counted_at}
-use Rattle.fir.specs.Filter.{count_of, output_at, outputs}
+use Rattle.fir.specs.Filter.{output_at, outputs}
 use Rattle.fir.specs.Each.{each_outs}
 use Rattle.fir.proofs.Counting.{count_of_each}
 use Rattle.fir.proofs.Each.{each_length}

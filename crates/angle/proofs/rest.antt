@@ -1,0 +1,2 @@
+-- What the remainder is, as a fraction.
+pub mod Turns

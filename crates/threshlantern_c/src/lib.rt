@@ -1,0 +1,13 @@
+// The static library for C and Rust: what `threshlantern` has, exported under the same names.
+//
+// A slice passes as a pointer and a length; states and answers pass as structs by value. Each function here calls
+// the one of its name in `threshlantern` and repeats its contract. No other crate exports anything.
+#![tactic(auto)]
+
+pub mod conversion;
+pub mod demodulators;
+pub mod filters;
+pub mod levels;
+pub mod numbers;
+pub mod oscillator;
+pub mod sidebands;
