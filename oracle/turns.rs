@@ -101,8 +101,8 @@ fn as_the_steps_f32(plan: &Plan, report: &mut Report) {
     report.end_of(cosine);
 }
 
-/// Library and judge may both get `%` from the same fmod of the platform, and would then err
-/// together. So the remainder itself is held to one by whole numbers.
+/// The judge gets `%` from the platform's fmod, and the library works it out itself. So the
+/// judge's remainder is held to one by whole numbers.
 fn remainder(plan: &Plan, report: &mut Report) {
     let mut check = Check::new("x % TAU, by whole numbers", Bound::Exact);
     let mut put = |x: f64| check.equal(x, x % steps::TAU, whole_remainder(x));

@@ -60,7 +60,7 @@ failing() { # NAME PROGRAM SUFFIX-OF-A-LINE [closed]
 c_face() {
   for program in example check; do
     # shellcheck disable=SC2086
-    cc $flags "bindings/c/$program.c" "$archive" -lm -o "$work/$program"
+    cc $flags "bindings/c/$program.c" "$archive" -o "$work/$program"
     if command -v c++ >/dev/null 2>&1; then
       # shellcheck disable=SC2086
       c++ -x c++ ${flags/c99/c++11} -fsyntax-only "bindings/c/$program.c"
@@ -71,7 +71,7 @@ c_face() {
   failing "the C example" "$work/example" "" closed
   for receiver in "$PWD/bindings/c/example.c" "$work/guide.c"; do
     # shellcheck disable=SC2086
-    cc $flags -DRECEIVER="\"$receiver\"" tests/receiver.c "$archive" -lm -o "$work/receiver"
+    cc $flags -DRECEIVER="\"$receiver\"" tests/receiver.c "$archive" -o "$work/receiver"
     "$work/receiver"
   done
   same "the guide's C" "$work/receiver" filter
@@ -82,7 +82,7 @@ c_face() {
 empty() {
   tests/empty.py > "$work/empty.c"
   # shellcheck disable=SC2086
-  cc $flags "$work/empty.c" "$archive" -lm -o "$work/empty"
+  cc $flags "$work/empty.c" "$archive" -o "$work/empty"
   "$work/empty"
   if ! command -v c++ >/dev/null 2>&1; then
     echo "faces: c++ is not on the PATH, so an empty std::vector was not tried"
@@ -100,7 +100,7 @@ int main() {
 }
 CC
   # shellcheck disable=SC2086
-  c++ ${flags/c99/c++11} "$work/vector.cc" "$archive" -lm -o "$work/vector"
+  c++ ${flags/c99/c++11} "$work/vector.cc" "$archive" -o "$work/vector"
   "$work/vector"
   echo "faces: an empty std::vector's data() is accepted from C++"
 }

@@ -1,5 +1,6 @@
 #!/usr/bin/env python3
-"""The library's LLVM module made ready for Arm, and the C that stands before it.
+"""The library's LLVM module made ready for Arm, and the C that stands before it. Not called today: the toolchain has no
+compiler for Arm, and keeps no LLVM module.
 
 usage: here.py MODULE.ll OUT.ll STEPS.c
 

@@ -13,7 +13,7 @@ said = re.search(r'^prints `(.*?)`', text, re.M).group(1)
 open(sys.argv[1] + '/use.c', 'w').write(code)
 open(sys.argv[1] + '/said', 'w').write(said + '\n')
 PY
-cc -Wall -Wextra -Werror -Ibuild "$work/use.c" target/here/libthreshlantern.a -lm -o "$work/use"
+cc -Wall -Wextra -Werror -Ibuild "$work/use.c" target/here/libthreshlantern.a -o "$work/use"
 "$work/use" > "$work/got"
 diff "$work/said" "$work/got"
 echo "readme: the example prints what the README says"

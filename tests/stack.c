@@ -3,7 +3,7 @@
  *
  * Each function works in a process of its own, on a thread of 32 KiB with a page below it that nothing may touch. The
  * thread paints its free stack, calls, and looks how far down the paint is gone. The process is new, so that the
- * dynamic linker's work at the first call of fmod, memcpy and memset is seen too. Where a limit is above 24 KiB the
+ * dynamic linker's work at the first call of memcpy and memset is seen too. Where a limit is above 24 KiB the
  * thread is 8 KiB larger than the limit, and a line says so.
  *
  *     stack < LIMITS    each line of LIMITS is NAME KIB, and the name `other` has the limit of all that have no line

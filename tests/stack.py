@@ -18,7 +18,7 @@ import tempfile
 ROOT = os.path.dirname(os.path.dirname(os.path.abspath(__file__)))
 ARCHIVE = os.path.join(ROOT, "build", "libthreshlantern.a")
 KIB = 1024
-# What fmod, memcpy and memset need, with the dynamic linker's work at their first call: 3.2 KiB where there is AVX-512.
+# What memcpy and memset need, with the dynamic linker's work at their first call: 3.2 KiB where there is AVX-512.
 C_LIBRARY = 3584
 
 
@@ -49,7 +49,7 @@ def build(work, names):
     program = os.path.join(work, "stack")
     words = ["cc", "-std=gnu99", "-O2", "-Wall", "-Wextra", "-Werror", "-I" + work, "-I" + os.path.join(ROOT, "build")]
     # Lazy, so that the dynamic linker's work at a first call is in the figures.
-    words += [os.path.join(ROOT, "tests", "stack.c"), ARCHIVE, "-lm", "-pthread", "-Wl,-z,lazy", "-o", program]
+    words += [os.path.join(ROOT, "tests", "stack.c"), ARCHIVE, "-pthread", "-Wl,-z,lazy", "-o", program]
     if subprocess.run(words).returncode != 0:
         fail("tests/stack.c does not compile: it must have work for exactly the functions of bindings/c/symbols.txt")
     return program
@@ -115,7 +115,7 @@ def deepest(name, frame, calls, path=()):
     if name in path:
         fail("%s calls itself" % name)
     if name not in frame:
-        return C_LIBRARY if name in ("fmod", "memcpy", "memset") else fail("who is %s?" % name)
+        return C_LIBRARY if name in ("memcpy", "memset") else fail("who is %s?" % name)
     return frame[name] + max([deepest(callee, frame, calls, path + (name,)) for callee in calls[name]], default=0)
 
 

@@ -1,7 +1,7 @@
 /* A receiver through the C header: pairs of bytes on standard input, f32 little-endian of sound on standard output, the
  * same bytes as the demo's. After `make lib`:
  *
- *     cc -Ibuild bindings/c/example.c build/libthreshlantern.a -lm -o build/example
+ *     cc -Ibuild bindings/c/example.c build/libthreshlantern.a -o build/example
  *     build/example < captures/alarm.cu8 > build/alarm.f32
  */
 #include <stdio.h>

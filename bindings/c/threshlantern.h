@@ -3,9 +3,9 @@
  * API conventions
  *
  * - Slices. A slice is a pointer and a length in elements. The caller lends it for the length of the call and no
- *   longer: the library keeps nothing between calls, allocates nothing, and calls nothing but the C library's fmod,
- *   memcpy and memset. A slice that a call writes may not overlap another slice of that call. A slice of length 0 may
- *   have any pointer, NULL too, as an empty C++ vector's data() does. The library cannot check that a length is right
+ *   longer: the library keeps nothing between calls, allocates nothing, and calls nothing but the C library's memcpy
+ *   and memset. A slice that a call writes may not overlap another slice of that call. A slice of length 0 may have any
+ *   pointer, NULL too, as an empty C++ vector's data() does. The library cannot check that a length is right
  *   for its pointer: the caller must see to it.
  * - States. What a stage remembers besides its slices is a small struct of numbers. The caller passes it by value and
  *   gets the new one back; pass that to the next call. It holds no pointer and can be copied freely.
@@ -27,7 +27,7 @@
  *   call over the whole. Only the oscillator is an exception: see tl_nco_mix.
  * - Threads. Calls share nothing. While a call runs, no other thread may touch its slices.
  * - Stack. A call needs at most this much below its caller's frame. Measured on the shipped x86-64 archive, with what
- *   the dynamic linker takes at the first call of fmod, memcpy or memset (3 KiB), and rounded up (tests/stack.py):
+ *   the dynamic linker takes at the first call of memcpy or memset (3 KiB), and rounded up (tests/stack.py):
  *     tl_decimator_process_into  72 KiB
  *     tl_ssb_process_into        10 KiB
  *     tl_hilbert_process_into     8 KiB
@@ -37,7 +37,7 @@
  *
  * Every function of the archive is proved to end, to stay within its slices, and to return what its definition says, to
  * the bit, for every input. The `_at` forms and tl_refusal_name are a few lines of C each, in this file: they are not
- * proved, and are tested. The archive is for x86-64 Linux. Link it with -lm.
+ * proved, and are tested. The archive is for x86-64 Linux.
  */
 #ifndef THRESHLANTERN_H
 #define THRESHLANTERN_H

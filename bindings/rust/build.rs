@@ -25,8 +25,6 @@ fn main() {
         ),
     }
     println!("cargo:rustc-link-lib=static=threshlantern");
-    // For fmod.
-    println!("cargo:rustc-link-lib=dylib=m");
 }
 
 /// What keeps the archive from being linked for the target, if anything.
