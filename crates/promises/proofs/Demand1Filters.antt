@@ -17,7 +17,7 @@ use Rattle.decimator.specs.declared.Decimator.{Decimator}
 use Rattle.decimator.specs.Making as decimator-making
 use Rattle.decimator.specs.Process as decimator
 use Rattle.decimator.specs.Settling as decimator-settling
-use Rattle.hilbert.specs.Rules.{taps_allowed as hilbertTapsAllowed}
+use Rattle.hilbert.specs.Rules.{taps_allowed as hilbert_allowed}
 use Rattle.hilbert.specs.Making as hilbert-making
 use Rattle.hilbert.specs.Process as hilbert
 use Rattle.ssb.specs.declared.SsbDemodulator.{SsbDemodulator}
@@ -80,24 +80,24 @@ decimator_update_cutoff d cutoff taps history = refuses _ refl (λ n. refl)
 -- ---- the Hilbert filter, which has no state, and SSB
 
 pub hilbert_new : (taps history : List Float)
-    → Refuses (demands (hilbertTapsAllowed (length taps)) true true (eqb (length history + 1) (length taps)) true)
+    → Refuses (demands (hilbert_allowed (length taps)) true true (eqb (length history + 1) (length taps)) true)
     (λ g. g.0.refusal) (hilbert-making.made taps history) (λ n. (record { refusal = n; count = 0 }, taps, history))
 hilbert_new taps history = refuses _ refl (λ n. refl)
 
 pub hilbert_process_into : (taps history input output : List Float)
-    → Refuses (demands (hilbertTapsAllowed (length taps)) true (is_within (length input)) (eqb (length history + 1) (length taps)) (leb (length input) (length output)))
+    → Refuses (demands (hilbert_allowed (length taps)) true (is_within (length input)) (eqb (length history + 1) (length taps)) (leb (length input) (length output)))
     (λ g. g.0.refusal) (hilbert.processed taps history input output) (λ n. (record { refusal = n; count = 0 }, history, output))
 hilbert_process_into taps history input output = refuses _ refl (λ n. refl)
 
 pub ssb_new : (usb : Bool) (taps q i : List Float)
     → Refuses
-    (demands (hilbertTapsAllowed (length taps)) true true (eqb (length taps) 65 && eqb (length q + 1) (length taps) && eqb (length i) 32) true)
+    (demands (hilbert_allowed (length taps)) true true (eqb (length taps) 65 && eqb (length q + 1) (length taps) && eqb (length i) 32) true)
     (λ g. g.0.refusal) (ssb-making.made usb taps q i) (λ n. (record { refusal = n; state = record { is_usb = false }; count = 0 }, taps, q, i))
 ssb_new usb taps q i = refuses _ refl (λ n. refl)
 
 pub ssb_process_into : (d : SsbDemodulator) (taps q i input output : List Float)
     → Refuses
-    (demands (hilbertTapsAllowed (length taps)) true (is_within (length input))
+    (demands (hilbert_allowed (length taps)) true (is_within (length input))
     (is_even (length input) && (eqb (length taps) 65 && eqb (length q + 1) (length taps) && eqb (length i) 32)) (leb (length input / 2) (length output)))
     (λ g. g.0.refusal) (ssb.processed d taps q i input output) (λ n. (record { refusal = n; state = d; count = 0 }, q, i, output))
 ssb_process_into d taps q i input output = refuses _ refl (λ n. refl)
