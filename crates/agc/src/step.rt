@@ -16,11 +16,8 @@ impl Feedback<(f32, f32), (f32, f32)> for Agc {
         let gain = gain_after(self, magnitude(i, q));
         let out_i = i * gain;
         let out_q = q * gain;
-        if stage::both_finite(out_i, out_q) & gain.finite() {
-            Some(((out_i, out_q), Agc { gain, ..self }))
-        } else {
-            None
-        }
+        let kept = stage::both_finite(out_i, out_q) & gain.finite();
+        kept.then_some(((out_i, out_q), Agc { gain, ..self }))
     }
 }
 

@@ -2,10 +2,9 @@
 ghost use Rattle.std.specs.Prelude.{◌≡◌};
 ghost use Rattle.am.specs.Step.{size_of, mean_after, am_answer};
 
+use crate::AmDemodulator;
 use number::kinds::Real;
 use stage::Feedback;
-
-use crate::AmDemodulator;
 
 // The step of `process_into`.
 #[tactic(auto, unfolding(crate::specs::Step::am_step, crate::specs::Step::passed))]
@@ -18,16 +17,13 @@ impl Feedback<(f32, f32), f32> for AmDemodulator {
         let envelope = size - mean;
         let state = stage::blend(self.hp_alpha, self.hp_state, envelope);
         let out = envelope - state;
-        if stage::both_finite(mean, state) & out.finite() {
-            let after = AmDemodulator {
-                dc_mean: mean,
-                hp_state: state,
-                ..self
-            };
-            Some((out, after))
-        } else {
-            None
-        }
+        let after = AmDemodulator {
+            dc_mean: mean,
+            hp_state: state,
+            ..self
+        };
+        let kept = stage::both_finite(mean, state) & out.finite();
+        kept.then_some((out, after))
     }
 }
 

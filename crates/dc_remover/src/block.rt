@@ -7,9 +7,8 @@ ghost use Rattle.stage.specs.Lent.{mono, interleaved, split};
 ghost use Rattle.stage.specs.Call.{gave, ran};
 ghost use Rattle.dc_remover.specs.Process.{mono_stage, pair_stage};
 
-use stage::Ran;
-
 use crate::DcRemover;
+use stage::Ran;
 
 impl DcRemover {
     // Mono samples, 16 at a time.
@@ -20,7 +19,7 @@ impl DcRemover {
             let mut z = [0.0; 16];
             let state = self.try_mono(data, &mut z);
             if stage::all_finite(&z) {
-                data.copy_from_slice(&z);
+                stage::copy(&z, data);
                 return Ran { state, struck: 0 };
             }
         }
@@ -29,7 +28,13 @@ impl DcRemover {
 
     // Whole pairs, 16 at a time. The state comes by its fields, in registers: a struct would be stored field by field and
     // both means read back at once, and such a read waits until the stores are through.
-    pub(crate) fn block_pairs(alpha: f32, avg_i: f32, avg_q: f32, data: &mut [f32]) -> Ran<DcRemover>
+    // Stays: with `self` in their place pairs take 2 % longer and the split call 7 %, below its bar of 0.95 (measured).
+    pub(crate) fn block_pairs(
+        alpha: f32,
+        avg_i: f32,
+        avg_q: f32,
+        data: &mut [f32],
+    ) -> Ran<DcRemover>
         requires { is_even (length «data».old) ≡ true }
         ensures { gave result.state result.struck «data».new ≡ ran pair_stage interleaved (record { avg_i = avg_i; avg_q = avg_q; alpha = alpha }) «data».old }
     {
@@ -42,7 +47,7 @@ impl DcRemover {
             let mut z = [0.0; 32];
             let state = before.try_pairs(data, &mut z);
             if stage::all_finite(&z) {
-                data.copy_from_slice(&z);
+                stage::copy(&z, data);
                 return Ran { state, struck: 0 };
             }
         }

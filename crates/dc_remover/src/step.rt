@@ -2,9 +2,8 @@
 ghost use Rattle.std.specs.Prelude.{◌≡◌};
 ghost use Rattle.dc_remover.specs.Step.{mono_out, mono_after, mono_answer, pair_out, pair_after, pair_answer};
 
-use stage::Feedback;
-
 use crate::DcRemover;
+use stage::Feedback;
 
 impl DcRemover {
     // What a mono sample puts out and the state after it, if it is kept.
@@ -41,11 +40,7 @@ impl Feedback<f32, f32> for DcRemover {
 
     fn step(self, x: f32) -> Option<(f32, DcRemover)> {
         let (out, after) = self.mono_kept(x);
-        if stage::both_finite(out, after.avg_i) {
-            Some((out, after))
-        } else {
-            None
-        }
+        stage::both_finite(out, after.avg_i).then_some((out, after))
     }
 }
 
@@ -56,10 +51,7 @@ impl Feedback<(f32, f32), (f32, f32)> for DcRemover {
 
     fn step(self, x: (f32, f32)) -> Option<((f32, f32), DcRemover)> {
         let (out, after) = self.pair_kept(x);
-        if stage::both_finite(out.0, out.1) & stage::both_finite(after.avg_i, after.avg_q) {
-            Some((out, after))
-        } else {
-            None
-        }
+        let kept = stage::both_finite(out.0, out.1) & stage::both_finite(after.avg_i, after.avg_q);
+        kept.then_some((out, after))
     }
 }

@@ -24,6 +24,7 @@ impl DcRemover {
     }
 
     // The same of whole pairs, I and Q side by side.
+    // Stays: one loop for both would need a trait that says how samples lie in a slice, longer than this second loop.
     pub(crate) fn try_pairs(mut self, data: &[f32], z: &mut [f32]) -> DcRemover
         requires { (length z.old ≡ length «data».now) × (is_even (length «data».now) ≡ true) }
         ensures { all_finite z.new ≡ true → gave result 0 z.new ≡ ran pair_stage interleaved self «data».now }
