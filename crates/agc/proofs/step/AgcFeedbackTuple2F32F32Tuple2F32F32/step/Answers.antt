@@ -1,6 +1,6 @@
--- `agc::step::agc_step` meets its contract: the tests decide the definition's. Assumes nothing.
+-- The gain control's `step` meets its contract: the tests decide the definition's. Assumes nothing.
 use Rattle.agc.specs.Step.{agc_step}
-use Rattle.agc.proofs.step.agc_step.Goals as goal
+use Rattle.agc.proofs.step.AgcFeedbackTuple2F32F32Tuple2F32F32.step.Goals as goal
 
 pub returns-then-both_finite-finite_f32 : goal.returns-then-both_finite-finite_f32
 unfolding agc_step
