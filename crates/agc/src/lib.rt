@@ -16,6 +16,7 @@ ghost use Rattle.stage.specs.Refusal.{refusal_no};
 ghost use Rattle.stage.specs.Numbers.{number_of};
 ghost use Rattle.agc.specs.State.{setting_met, state_met, made, answered};
 
+use number::kinds::Real;
 use stage::Refusal;
 
 // The gain, the level that it brings a pair to, and how fast it falls and rises.
@@ -68,7 +69,7 @@ impl Agc {
     fn demands(self, within: bool, even: bool) -> Result<(), Refusal>
         ensures { number_of result ≡ refusal_no (setting_met self) (state_met self) within even true }
     {
-        let state = number::kinds::finite_f32(self.gain);
+        let state = self.gain.finite();
         stage::demands(self.setting(), state, within, even, true)
     }
 

@@ -7,13 +7,14 @@ use crate::{Agc, AgcDone};
 impl Agc {
     // Interleaved pairs, I first, each times the gain after it. A pair is struck where that gain or an output
     // would not be finite. SETTING, STATE, LIMIT and LENGTH refuse, and then nothing is written.
-    pub fn process(self, data: &mut [f32]) -> AgcDone
+    pub fn process(mut self, data: &mut [f32]) -> AgcDone
         ensures { given result «data».new ≡ process self «data».old }
     {
         if let Err(refusal) = self.demands(stage::within(data.len()), stage::even(data.len())) {
             return self.answer(u32::from(refusal), 0);
         }
         let ran = stage::run_pairs(self, data);
-        ran.state.answer(stage::NONE, ran.struck)
+        self = ran.state;
+        self.answer(stage::NONE, ran.struck)
     }
 }

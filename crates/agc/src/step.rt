@@ -3,9 +3,9 @@ ghost use Rattle.std.specs.Prelude.{◌≡◌};
 ghost use Rattle.agc.specs.Gain.{magnitude_of, error_of, weight_of, gain_after};
 ghost use Rattle.agc.specs.Step.{agc_answer};
 
-use stage::Feedback;
-
 use crate::Agc;
+use number::kinds::Real;
+use stage::Feedback;
 
 // The step of `process`: I and Q are one pair.
 impl Feedback<(f32, f32), (f32, f32)> for Agc {
@@ -15,7 +15,7 @@ impl Feedback<(f32, f32), (f32, f32)> for Agc {
         let gain = gain_after(self, magnitude(i, q));
         let out_i = i * gain;
         let out_q = q * gain;
-        if stage::both_finite(out_i, out_q) & number::kinds::finite_f32(gain) {
+        if stage::both_finite(out_i, out_q) & gain.finite() {
             Some(((out_i, out_q), Agc { gain, ..self }))
         } else {
             None

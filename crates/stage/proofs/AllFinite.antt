@@ -1,8 +1,7 @@
--- Laws of a list of finite floats: one more at its end, and as a fold. Assumes nothing.
+-- Laws of a list of finite floats: one more at its end. Assumes nothing.
 use mathlib.Core.Path.{◌≡◌, refl, ap, ◌∙◌}
 use mathlib.Core.Bool.{Bool, true, false, ◌&&◌}
 use mathlib.Core.List.{List, [], ◌∷◌, ◌++◌}
-use Rattle.std.specs.List.{fold}
 use lib.Ieee.{Float}
 use lib.Ieee.Scale.{finite}
 use Rattle.stage.specs.Floats.{all_finite}
@@ -18,15 +17,3 @@ and_later false b c = refl
 pub all_snoc : (xs : List Float) (x : Float) → all_finite (xs ++ (x ∷ [])) ≡ (all_finite xs && finite x)
 all_snoc [] x = and_end (finite x)
 all_snoc (y ∷ xs) x = ap (λ (b : Bool). finite y && b) (all_snoc xs x) ∙ and_later (finite y) (all_finite xs) (finite x)
-
-false_stays : (xs : List Float) → fold (λ (all : Bool) (x : Float). all && finite x) false xs ≡ false
-false_stays [] = refl
-false_stays (x ∷ xs) = false_stays xs
-
-pub all_by_fold : (xs : List Float) → fold (λ (all : Bool) (x : Float). all && finite x) true xs ≡ all_finite xs
-all_by_fold [] = refl
-all_by_fold (x ∷ xs) = go (finite x)
-  where
-    go : (b : Bool) → fold (λ (all : Bool) (y : Float). all && finite y) b xs ≡ (b && all_finite xs)
-    go true = all_by_fold xs
-    go false = false_stays xs

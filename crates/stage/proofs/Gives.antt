@@ -1,7 +1,6 @@
 -- From what a call's code knows on each of its two ways to what the call gives: the number refuses it, or its loop is at the end of the run. Assumes nothing.
 use Prim.Native.Nat.{ℕ, ◌/◌}
-use native.Mathlib.Omega.{arith}
-use mathlib.Core.Path.{◌≡◌, refl, sym, ap, ◌∙◌}
+use mathlib.Core.Path.{◌≡◌, refl, sym, ◌∙◌}
 use mathlib.Core.Bool.{true}
 use mathlib.Core.List.{List}
 use lib.ListN.{length, take}
@@ -12,7 +11,7 @@ use Rattle.stage.specs.Layout.{pairs, flat, over}
 use Rattle.stage.specs.Lent.{Lent, mono, interleaved}
 use Rattle.stage.specs.Stage.{Stage}
 use Rattle.stage.specs.Call.{Given, gave, refused_with, number_of, ran, call}
-use Rattle.stage.specs.Into.{Put, number_into, call_into}
+use Rattle.stage.specs.Into.{number_into, call_into}
 use Rattle.stage.proofs.Refusals.{met, refused_gives, run_gives}
 use Rattle.stage.proofs.Layouts.{length_pairs}
 use Rattle.stage.proofs.LoopInterleaved.{interleaved_full}

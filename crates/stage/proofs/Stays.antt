@@ -5,7 +5,7 @@ use mathlib.Core.Path.{◌≡◌, refl, sym, ◌∙◌, subst}
 use mathlib.Core.Bool.{Bool, true, false, cond}
 use mathlib.Core.List.{List, [], ◌∷◌}
 use Rattle.stage.specs.Refusal.{NONE, SETTING, STATE, refusal_no}
-use Rattle.stage.specs.Run.{Answer, struck, kept}
+use Rattle.stage.specs.Run.{struck, kept}
 use Rattle.stage.specs.Lent.{Lent}
 use Rattle.stage.specs.Stage.{Stage, Sound}
 use Rattle.stage.specs.Call.{call}

@@ -3,11 +3,17 @@ ghost use Rattle.std.specs.Prelude.{◌≡◌};
 ghost use Rattle.stage.specs.Floats.{all_finite};
 ghost use Rattle.stage.specs.Layout.{copied};
 
+use number::kinds::Real;
+
 /// Whether each is finite. Without a branch: several are tested side by side, where `all` would stop at the first that is not.
 pub fn all_finite(xs: &[f32]) -> bool
     ensures { result ≡ all_finite xs.now }
 {
-    xs.iter().fold(true, |all, x| all & number::kinds::finite_f32(*x))
+    let mut all = true;
+    for x in xs {
+        all = all & x.finite();
+    }
+    all
 }
 
 /// Writes `from` to a slice that has as many places; else nothing.

@@ -4,4 +4,4 @@ use Rattle.stage.proofs.LoopMono.{MonoLoop}
 use Rattle.stage.proofs.runs.run_mono.Given as goal
 
 abbrev pub invariant-loop-x : goal.invariant-loop-x
-invariant-loop-x g l = MonoLoop g.S.Feedback.answer plus_zero l.fn.state l.fn.«data» l.«data» l.at l.struck l.x-index
+invariant-loop-x g l = MonoLoop g.S.Feedback.answer plus_zero l.fn.state l.fn.«data» l.«data» l.state l.struck l.x-index
