@@ -127,7 +127,9 @@ def only_theorems():
         use = r'^use Rattle\.(\w+)\.%s((?:\.\w+)?) as ([\w-]+)$'
         proofs = {a: crate + below for crate, below, a in re.findall(use % 'proofs', text, re.M)}
         says = {a: crate + below for crate, below, a in re.findall(use % r'specs\.contracts', text, re.M)}
-        for theorem, ended, learnt in re.findall(r'^pub ([\w-]+) : NoSecond (\S+)\.ended (\S+)\.Reads\.Learnt$', text, re.M):
+        # of a function over any type, the theorem begins with what the type brings
+        said = r'^pub ([\w-]+) : (?:\([^)]*\) → )?NoSecond \(?(\S+)\.ended(?: [^)]*\))? \(?(\S+)\.Reads\.Learnt(?: [^)]*\))?$'
+        for theorem, ended, learnt in re.findall(said, text, re.M):
             head, _, rest = ended.partition('.')
             of, _, same = learnt.partition('.')
             if rest == same and head in says and says[head] == proofs.get(of):
