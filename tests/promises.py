@@ -144,7 +144,7 @@ def declares(path, name):
         return False
     word = re.escape(name)
     if path.endswith('.rt'):
-        return re.search(r'\b(fn|struct|enum) %s\b' % word, read(path))
+        return re.search(r'\b(fn|struct|enum|trait) %s\b' % word, read(path))
     return re.search(r'^\s*(abbrev |unfoldable )?(pub )?(%s :|(record|data) %s\b)' % (word, word), read(path), re.M)
 
 
