@@ -8,6 +8,7 @@ use number::kinds::Real;
 use stage::Feedback;
 
 // The step of `process`: I and Q are one pair.
+#[tactic(auto, unfolding(crate::specs::Step::agc_answer))]
 impl Feedback<(f32, f32), (f32, f32)> for Agc {
     ghost answer = { agc_answer };
 
@@ -30,6 +31,7 @@ fn magnitude(i: f32, q: f32) -> f32
 }
 
 // The gain after a pair of this magnitude.
+#[tactic(auto, unfolding(crate::specs::Gain::gain_after))]
 fn gain_after(s: Agc, mag: f32) -> f32
     ensures { result ≡ gain_after s mag }
 {
