@@ -6,8 +6,9 @@
 // is written. No public function here has a `requires`.
 #![tactic(auto)]
 
-ghost use Rattle.std.specs.Prelude.{◌≡◌, ◌≤◌, ◌%◌, length};
-ghost use Rattle.converter.specs.Convert.{sample_of, negated_of, samples, inverted, refusal_of, converted};
+ghost use Rattle.std.specs.Prelude.{◌≡◌, ◌%◌, length};
+ghost use Rattle.converter.specs.Convert.{sample_of, negated_of, samples, in_pairs, inverted, refusal_of, converted};
+ghost use Rattle.converter.specs.Gives.{Gives};
 
 // Writes every byte's value to the same place of `dst`. Answers the number of the refusal, 0 for none.
 pub fn convert(src: &[u8], dst: &mut [f32]) -> u32
@@ -15,7 +16,7 @@ pub fn convert(src: &[u8], dst: &mut [f32]) -> u32
 {
     let number = refusal(src.len(), dst.len());
     if number == stage::NONE {
-        fill(src, dst);
+        fill(src, dst, sample);
     }
     number
 }
@@ -26,7 +27,7 @@ pub fn convert_inverted(src: &[u8], dst: &mut [f32]) -> u32
 {
     let refused = refusal(src.len(), dst.len());
     if refused == stage::NONE {
-        fill_inverted(src, dst);
+        fill(src, dst, negated);
     }
     refused
 }
@@ -44,26 +45,15 @@ fn refusal(n: usize, m: usize) -> u32
     )
 }
 
-fn fill(src: &[u8], dst: &mut [f32])
-    requires { length dst.old ≡ length src.now }
-    ensures { dst.new ≡ samples src.now }
+// Writes I's value, and what becomes of Q, pair by pair.
+fn fill<F: Fn(u8) -> f32>(src: &[u8], dst: &mut [f32], of_q: F)
+    requires lengths { (length dst.old ≡ length src.now) × (length src.now % 2 ≡ 0) }
+    requires callable { F.IsAlwaysCallable of_q }
+    ensures { (f : _) → Gives (F.post of_q) f → dst.new ≡ in_pairs f src.now }
 {
-    let mut i = 0;
-    while i < src.len() {
-        dst[i] = sample(src[i]);
-        i += 1;
-    }
-}
-
-fn fill_inverted(src: &[u8], dst: &mut [f32])
-    requires { (length dst.old ≡ length src.now) × (length src.now % 2 ≡ 0) }
-    ensures { dst.new ≡ inverted src.now }
-{
-    let mut i = 0;
-    while i < src.len() {
-        dst[i] = sample(src[i]);
-        dst[i + 1] = negated(src[i + 1]);
-        i += 2;
+    for k in 0..src.len() / 2 {
+        dst[2 * k] = sample(src[2 * k]);
+        dst[2 * k + 1] = of_q(src[2 * k + 1]);
     }
 }
 
