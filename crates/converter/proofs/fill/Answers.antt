@@ -28,4 +28,4 @@ pub returns : goal.returns
 returns g c f h =
     let src = c.args.src.now in
     let past : length src ≤ 2 * c.loop-k.k = omega (arith, c.requires.lengths) in
-    filling_ends (rw (drop_of_length-le src past) at (c.loop-k.invariant f h))
+    filling_ends {out = c.loop-k.dst} (rw (drop_of_length-le src past) at (c.loop-k.invariant f h))
