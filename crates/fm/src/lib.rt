@@ -50,24 +50,20 @@ impl FmDemodulator {
     // is not finite and above 0, a tau that is not finite or below 0, an alpha that comes out outside 0 to 1;
     // STATE: a stored float that is not finite.
     #[tactic(auto, unfolding(crate::specs::State::deemphasised))]
-    pub fn with_deemphasis(self, sample_rate: f32, tau: f32) -> FmDone
+    pub fn with_deemphasis(mut self, sample_rate: f32, tau: f32) -> FmDone
         ensures { result ≡ deemphasised self sample_rate tau }
     {
         if let Err(refusal) = rules::deemphasis(self, sample_rate, tau) {
             return self.answer(u32::from(refusal), 0, 0);
         }
-        let deemph_alpha = rules::alpha(sample_rate, tau);
-        FmDemodulator {
-            deemph_alpha,
-            ..self
-        }
-        .answer(stage::NONE, 0, 0)
+        self.deemph_alpha = rules::alpha(sample_rate, tau);
+        self.answer(stage::NONE, 0, 0)
     }
 
     // Demodulates the pairs of `input`, one output each from the start of `output`; the places behind stay. SETTING
     // for an alpha outside 0 to 1, STATE for a stored float that is not finite, LIMIT, LENGTH for an odd input,
     // ROOM for an output with fewer places than there are pairs.
-    pub fn process_into(self, input: &[f32], output: &mut [f32]) -> FmDone
+    pub fn process_into(mut self, input: &[f32], output: &mut [f32]) -> FmDone
         ensures { put result output.new ≡ process_into self input.now output.old }
     {
         if let Err(refusal) = rules::processing(self, input.len(), output.len()) {
@@ -79,11 +75,12 @@ impl FmDemodulator {
     }
 
     // The feedback over the pairs' angles, whose places its outputs take.
-    fn follow(self, run: &mut [f32]) -> FmDone
+    fn follow(mut self, run: &mut [f32]) -> FmDone
         ensures { put result run.new ≡ followed self run.old }
     {
         let ran = stage::run_mono(self, run);
-        ran.state.answer(stage::NONE, run.len(), ran.struck)
+        self = ran.state;
+        self.answer(stage::NONE, run.len(), ran.struck)
     }
 
     fn answer(self, refusal: u32, count: usize, struck: usize) -> FmDone

@@ -5,6 +5,7 @@ ghost use Rattle.angle.specs.Single.{PI32};
 ghost use Rattle.fm.specs.Step.{wrapped, from_angle};
 
 use crate::FmDemodulator;
+use number::kinds::Real;
 use stage::Feedback;
 
 // The step from an angle.
@@ -16,7 +17,7 @@ impl Feedback<f32, f32> for FmDemodulator {
         let diff = wrap(phase - self.last_phase);
         let state = stage::blend(self.deemph_alpha, self.deemph_state, diff);
         let out = state / angle::single::PI;
-        if stage::both_finite(phase, state) & number::kinds::finite_f32(out) {
+        if stage::both_finite(phase, state) & out.finite() {
             Some((
                 out,
                 FmDemodulator {
