@@ -11,10 +11,12 @@
 
 mod block;
 mod numbers;
+mod runs;
 mod settings;
 mod step;
 
 pub use block::{all_finite, copy};
-pub use numbers::{LENGTH, LIMIT, LONGEST, NONE, ROOM, SETTING, STATE, even, refusal, within};
+pub use numbers::{LONGEST, NONE, Refusal, demands, even, within};
+pub use runs::{Feedback, Ran, run_into, run_mono, run_pairs};
 pub use settings::{in_unit, not_negative, positive, positive_f64};
 pub use step::{blend, both_finite};
