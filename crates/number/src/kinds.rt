@@ -18,6 +18,10 @@ pub trait Real: Copy {
     // Whether the sign bit is set, as it is in -0.0; false for NaN, which counts as having none.
     fn negative(self) -> bool
         ensures { result ≡ negative (value self) };
+
+    // The same number as an f64, which holds each of either width.
+    fn wide(self) -> f64
+        ensures { result ≡ value self };
 }
 
 // Stays: `finite` compares, since a loop over std's `is_finite`, which subtracts, is a quarter slower (measured).
@@ -43,6 +47,10 @@ impl Real for f32 {
         }
         f32::is_sign_negative(self)
     }
+
+    fn wide(self) -> f64 {
+        f64::from(self)
+    }
 }
 
 #[tactic(auto, using(crate::proofs::kinds::Tests::laws))]
@@ -65,5 +73,9 @@ impl Real for f64 {
             return false;
         }
         f64::is_sign_negative(self)
+    }
+
+    fn wide(self) -> f64 {
+        self
     }
 }

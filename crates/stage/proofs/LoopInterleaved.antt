@@ -2,11 +2,11 @@
 use Prim.Native.Nat.{ℕ, suc, ◌+◌, ◌*◌, ◌/◌, ◌%◌, ◌≤◌, ◌<◌}
 use native.Mathlib.Numerals.{add-one}
 use native.Mathlib.Omega.{arith}
-use mathlib.Core.Path.{◌≡◌, refl, sym, ap, ◌∙◌}
+use mathlib.Core.Path.{◌≡◌, sym, ap, ◌∙◌}
 use mathlib.Core.Bool.{true}
 use mathlib.Core.List.{List, [], ◌∷◌, ◌++◌, append_assoc}
 use lib.ListN.{length, get_or, take, drop, set, length-set, length-drop}
-use lib.Seq.{take-suc-set, drop-set-lt, take_all, lt-length-set, length-take-le}
+use lib.Seq.{take-suc-set, drop-set-lt, lt-length-set, length-take-le}
 use borrow.Author.Tests.{eqb-true, eq-eqb}
 use Rattle.stage.specs.Length.{is_even}
 use Rattle.stage.specs.Run.{Answer, out_of, after, outs, end, strikes}

@@ -13,5 +13,5 @@ number refusal.Room = ROOM
 
 -- each demand is met, or this refusal is that of the first that is not
 abbrev pub number_of : Result Unit Refusal → ℕ
-number_of (Ok met) = NONE
-number_of (Err refusal) = number refusal
+number_of (Ok u) = NONE
+number_of (Err r) = number r

@@ -36,7 +36,13 @@ pub const LONGEST: usize = 262_144;
 
 /// The first demand that is not met, in the order of the table.
 /// A flag says that its demand is met; a call that makes no such demand passes true.
-pub fn demands(setting: bool, state: bool, limit: bool, length: bool, room: bool) -> Result<(), Refusal>
+pub fn demands(
+    setting: bool,
+    state: bool,
+    limit: bool,
+    length: bool,
+    room: bool,
+) -> Result<(), Refusal>
     ensures { number_of result ≡ refusal_no setting state limit «length» room }
 {
     demand(setting, Refusal::Setting)?;
