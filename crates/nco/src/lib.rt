@@ -35,6 +35,7 @@ pub struct NcoDone {
     pub state: Nco,
 }
 
+#[tactic(auto, using(stage::proofs::Refusals::err_gives, stage::proofs::Refusals::ok_gives), unfolding(crate::specs::Call::made, crate::specs::Call::retuned, crate::specs::Call::mixed, crate::specs::Call::cleared))]
 impl Nco {
     // An oscillator at `freq_hz`, phase 0. SETTING: a frequency that is not finite, a rate that is not finite
     // and above 0, an increment outside -PI to PI; the record is then one of zeros.

@@ -15,6 +15,7 @@ fn increment_allowed(inc: f64) -> bool
     (-angle::turn::PI <= inc) & (inc <= angle::turn::PI)
 }
 
+#[tactic(auto, unfolding(crate::specs::Rules::tuning_refusal))]
 impl Tuning {
     fn allowed(self) -> bool
         ensures { result ≡ tuning_allowed self.freq self.rate }
@@ -29,6 +30,7 @@ impl Tuning {
     }
 }
 
+#[tactic(auto, unfolding(crate::specs::Rules::retuning_refusal, crate::specs::Rules::mixing_refusal, crate::specs::Rules::resting_refusal))]
 impl Nco {
     // Phase and rotator are finite.
     fn at_rest(self) -> bool
@@ -59,6 +61,12 @@ impl Nco {
     pub(crate) fn resting(self) -> Result<(), Refusal>
         ensures { number_of result ≡ resting_refusal self }
     {
-        stage::demands(increment_allowed(self.phase_inc), self.at_rest(), true, true, true)
+        stage::demands(
+            increment_allowed(self.phase_inc),
+            self.at_rest(),
+            true,
+            true,
+            true,
+        )
     }
 }

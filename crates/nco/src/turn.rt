@@ -22,6 +22,7 @@ pub(crate) struct WidePair {
 }
 
 impl Nco {
+    #[tactic(auto, unfolding(crate::specs::Mix::spun))]
     // One sample on: turned by the rotator, and one rounded addition to the phase.
     pub(crate) fn next(self, turn: Turn) -> Turn
         ensures { result ≡ spun self turn }
