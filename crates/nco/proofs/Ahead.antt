@@ -1,9 +1,8 @@
 -- What a place in the slice leads to stays, pair by pair and four pairs at once; at the start it is the whole mixing, and at the end the slice itself. Assumes nothing.
-use Prim.Native.Nat.{ℕ, ◌+◌, ◌-◌, ◌*◌, ◌/◌, ◌%◌, ◌≤◌, ◌<◌}
+use Prim.Native.Nat.{ℕ, ◌+◌, ◌≤◌, ◌<◌}
 use native.Mathlib.Omega.{arith}
-use mathlib.Core.Bool.{true}
 use mathlib.Core.Path.{◌≡◌, refl, sym, ap, ◌∙◌}
-use mathlib.Core.List.{List, [], ◌∷◌, ◌++◌, append_assoc, append-nil, map, map-append}
+use mathlib.Core.List.{List, ◌++◌, append_assoc, append-nil, map, map-append}
 use lib.ListN.{length, get_or, set, take, drop, drop_of_length-le, length-append, length-drop, take-append-drop}
 use lib.Seq.{take_all, length-take-le, take-append_seam, drop-append_seam}
 use lib.Ieee.{Float, nan}
