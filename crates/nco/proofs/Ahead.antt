@@ -1,9 +1,8 @@
 -- What a place in the slice leads to stays, pair by pair and four pairs at once; at the start it is the whole mixing, and at the end the slice itself. Assumes nothing.
-use Prim.Native.Nat.{ℕ, ◌+◌, ◌-◌, ◌*◌, ◌/◌, ◌%◌, ◌≤◌, ◌<◌}
+use Prim.Native.Nat.{ℕ, ◌+◌, ◌≤◌, ◌<◌}
 use native.Mathlib.Omega.{arith}
-use mathlib.Core.Bool.{true}
 use mathlib.Core.Path.{◌≡◌, refl, sym, ap, ◌∙◌}
-use mathlib.Core.List.{List, [], ◌∷◌, ◌++◌, append_assoc, append-nil, map, map-append}
+use mathlib.Core.List.{List, ◌++◌, append_assoc, append-nil, map, map-append}
 use lib.ListN.{length, get_or, set, take, drop, drop_of_length-le, length-append, length-drop, take-append-drop}
 use lib.Seq.{take_all, length-take-le, take-append_seam, drop-append_seam}
 use lib.Ieee.{Float, nan}
@@ -57,7 +56,7 @@ ahead_eight s xs ys post k m t u em room p long e =
     let front : length (take k xs ++ ys) ≡ m = rw (length-append, length-take-le k xs (omega (arith, room)), long, em) refl in
     let eight : length (take 8 (drop k xs)) ≡ 8 = length-take-le 8 (drop k xs) (rw length-drop (omega (arith, room))) in
     let cut : pairs (drop k xs) ≡ P ++ pairs post =
-        ap pairs (sym (take-append-drop 8 (drop k xs))) ∙ pairs_append (take 8 (drop k xs)) (drop 8 (drop k xs)) (rw eight refl) ∙ ap (λ (r : List Float). P ++ pairs r) (sym p) in
+    ap pairs (sym (take-append-drop 8 (drop k xs))) ∙ pairs_append (take 8 (drop k xs)) (drop 8 (drop k xs)) (rw eight refl) ∙ ap (λ (r : List Float). P ++ pairs r) (sym p) in
     let y : ys ≡ flat (outs (spin s) silence t P) = ap (λ (w : List Float × Turn). w.0) e in
     let v : u ≡ end (spin s) t P = ap (λ (w : List Float × Turn). w.1) e in
     rw (← append_assoc (take k xs) ys post, ← front, take-append_seam, drop-append_seam)

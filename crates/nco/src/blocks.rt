@@ -63,7 +63,8 @@ impl Nco {
     // Pair by pair, for a stretch.
     fn singles(self, iq: &mut [f32], from: Place) -> Place
         requires { from.k ≤ length iq.old / 2 }
-        ensures place { (result.k ≤ length iq.new / 2) × (from.k ≤ result.k) × (from.k < length iq.new / 2 → from.k < result.k) }
+        ensures place { (from.k ≤ result.k) × (result.k ≤ length iq.new / 2) }
+        ensures goes_on { from.k < length iq.new / 2 → from.k < result.k }
         ensures same_rest { ahead self iq.new (2 * result.k) result.turn ≡ ahead self iq.old (2 * from.k) from.turn }
     {
         let to = usize::min(from.k + STRETCH, iq.len() / 2);

@@ -38,6 +38,7 @@ pub struct NcoDone {
 impl Nco {
     // An oscillator at `freq_hz`, phase 0. SETTING: a frequency that is not finite, a rate that is not finite
     // and above 0, an increment outside -PI to PI; the record is then one of zeros.
+    #[tactic(auto, using(stage::proofs::Refusals::ok_gives), unfolding(crate::specs::Call::made))]
     pub fn new(freq_hz: f64, sample_rate_hz: f64) -> NcoDone
         ensures { result ≡ made freq_hz sample_rate_hz }
     {
@@ -53,6 +54,7 @@ impl Nco {
 
     // Another frequency at the phase that there is. SETTING as `new`, and for the old increment too; STATE for a
     // phase or a rotator that is not finite.
+    #[tactic(auto, using(stage::proofs::Refusals::ok_gives), unfolding(crate::specs::Call::retuned))]
     pub fn set_freq(mut self, freq_hz: f64, sample_rate_hz: f64) -> NcoDone
         ensures { result ≡ retuned self freq_hz sample_rate_hz }
     {
@@ -69,6 +71,7 @@ impl Nco {
 
     // Mixes the pairs of `iq` in place. SETTING for an increment outside -PI to PI, STATE for a phase or a rotator
     // that is not finite, LIMIT, LENGTH for an odd slice.
+    #[tactic(auto, using(stage::proofs::Refusals::ok_gives), unfolding(crate::specs::Call::mixed))]
     pub fn mix(mut self, iq: &mut [f32]) -> NcoDone
         ensures { (result, iq.new) ≡ mixed self iq.old }
     {
@@ -81,6 +84,7 @@ impl Nco {
     }
 
     // Phase 0 again. SETTING and STATE as `mix`: a poisoned oscillator is not healed, a new one is made.
+    #[tactic(auto, using(stage::proofs::Refusals::ok_gives), unfolding(crate::specs::Call::cleared))]
     pub fn reset(mut self) -> NcoDone
         ensures { result ≡ cleared self }
     {

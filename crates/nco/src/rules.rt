@@ -1,7 +1,8 @@
 // The oscillator's rules, and what each call demands.
 ghost use Rattle.std.specs.Prelude.{◌≡◌};
 ghost use Rattle.stage.specs.Numbers.{number_of};
-ghost use Rattle.nco.specs.Rules.{increment_allowed, tuning_allowed, at_rest, tuning_refusal, retuning_refusal, mixing_refusal, resting_refusal};
+ghost use Rattle.nco.specs.Rules.{increment_allowed, tuning_allowed, at_rest};
+ghost use Rattle.nco.specs.Rules.{tuning_refusal, retuning_refusal, mixing_refusal, resting_refusal};
 
 use crate::Nco;
 use crate::tune::Tuning;
@@ -22,6 +23,7 @@ impl Tuning {
         self.freq.finite() & stage::positive(self.rate) & increment_allowed(self.increment())
     }
 
+    #[tactic(auto, unfolding(crate::specs::Rules::tuning_refusal))]
     pub fn demands(self) -> Result<(), Refusal>
         ensures { number_of result ≡ tuning_refusal self.freq self.rate }
     {
@@ -37,6 +39,7 @@ impl Nco {
         self.phase.finite() & self.rotator_i.finite() & self.rotator_q.finite()
     }
 
+    #[tactic(auto, unfolding(crate::specs::Rules::retuning_refusal))]
     pub(crate) fn retuning(self, tuning: Tuning) -> Result<(), Refusal>
         ensures { number_of result ≡ retuning_refusal self tuning.freq tuning.rate }
     {
@@ -44,6 +47,7 @@ impl Nco {
         stage::demands(setting, self.at_rest(), true, true, true)
     }
 
+    #[tactic(auto, unfolding(crate::specs::Rules::mixing_refusal))]
     pub(crate) fn mixing(self, n: usize) -> Result<(), Refusal>
         ensures { number_of result ≡ mixing_refusal self n }
     {
@@ -56,9 +60,16 @@ impl Nco {
         )
     }
 
+    #[tactic(auto, unfolding(crate::specs::Rules::resting_refusal))]
     pub(crate) fn resting(self) -> Result<(), Refusal>
         ensures { number_of result ≡ resting_refusal self }
     {
-        stage::demands(increment_allowed(self.phase_inc), self.at_rest(), true, true, true)
+        stage::demands(
+            increment_allowed(self.phase_inc),
+            self.at_rest(),
+            true,
+            true,
+            true,
+        )
     }
 }

@@ -11,6 +11,7 @@ pub struct Tuning {
     pub rate: f64,
 }
 
+#[tactic(auto, unfolding(crate::specs::Mix::increment_of, crate::specs::Mix::tuned_at))]
 impl Tuning {
     // 2 x PI x frequency / rate, left to right.
     pub fn increment(self) -> f64

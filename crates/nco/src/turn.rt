@@ -23,6 +23,7 @@ pub(crate) struct WidePair {
 
 impl Nco {
     // One sample on: turned by the rotator, and one rounded addition to the phase.
+    #[tactic(auto, unfolding(crate::specs::Mix::spun))]
     pub(crate) fn next(self, turn: Turn) -> Turn
         ensures { result ≡ spun self turn }
     {
@@ -33,8 +34,8 @@ impl Nco {
         }
     }
 
-    // Four pairs mixed, the first of them by `first`, and the turn after the last; nothing where an element is NaN, whose
-    // cast is not defined, or where a result is not near.
+    // Four pairs mixed, the first of them by `first`, and the turn after the last; nothing where an element is NaN,
+    // whose cast is not defined, or where a result is not near. A block whose tests are joined by `&=` has no branch.
     pub(crate) fn four(self, first: Turn, iq: [f32; 8]) -> Option<([f32; 8], Turn)>
         ensures { IfSome result (λ answer. answer ≡ ahead self iq 0 first) }
     {

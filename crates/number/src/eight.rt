@@ -5,8 +5,8 @@ ghost use Rattle.std.specs.List.{list_all};
 ghost use Rattle.number.specs.Narrow.{narrowed};
 ghost use Rattle.number.specs.Eight.{is_near, eight_of};
 
-// The f32 nearest to each, in order and a tie to the even one, if each of them lies from 2^-64 to 2^64 in size. The tests
-// are joined by `&=`, without a branch.
+// The f32 nearest to each, in order and a tie to the even one, if each of them lies from 2^-64 to 2^64 in size.
+// The tests are joined by `&=` and not by `all`: without a branch the compiler works them side by side.
 pub fn narrow(xs: [f64; 8]) -> Option<[f32; 8]>
     ensures { result ≡ eight_of xs }
 {

@@ -11,7 +11,12 @@ use Rattle.halves.proofs as halves
 use Rattle.halves.specs.contracts as halves-says
 use Rattle.fir.proofs as fir
 use Rattle.fir.specs.contracts as fir-says
-use Rattle.promises.specs.Contract.{NoSecond}
+use mathlib.Core.Path.{◌≡◌, sym, ◌∙◌}
+use mathlib.Core.Bool.{false}
+use Rattle.std.specs.List.{list_all}
+use Rattle.number.specs.Eight.{is_near, no_eight}
+use Rattle.number.proofs.Eights.{none_where_far}
+use Rattle.promises.specs.Contract.{Entry, Answer, Meets, NoSecond}
 use Rattle.promises.proofs.OneAnswer.{one_answer}
 
 -- ---- number
@@ -50,10 +55,12 @@ pub narrow_alone : NoSecond number-says.alone.narrow.ended number.alone.narrow.R
 narrow_alone h x y = one_answer (λ r. (r, (tt, tt)))
 
 pub narrow_eight : NoSecond number-says.eight.narrow.ended number.eight.narrow.Reads.Learnt
-narrow_eight h x y = one_answer (λ r. (r, (tt, (tt, (tt, (tt, (tt, (tt, (tt, (tt, tt))))))))))
+narrow_eight h x y = one_answer (λ r. (r, (tt, tt)))
 
-pub none_eight : NoSecond number-says.eight.none.ended number.eight.none.Reads.Learnt
-none_eight h x y = one_answer (λ r. (r, tt))
+-- where one of the eight is not near, the one answer is none
+pub none_eight : (h : Entry number-says.eight.narrow.ended) (x : Answer number-says.eight.narrow.ended h) → Meets number-says.eight.narrow.ended number.eight.narrow.Reads.Learnt h x
+    → list_all is_near h.1.0 ≡ false → x.0 ≡ no_eight
+none_eight h x met far = met ∙ sym (none_where_far h.1.0 far)
 
 pub whole : NoSecond number-says.whole.whole.ended number.whole.whole.Reads.Learnt
 whole h x y = one_answer (λ r. (r, (tt, tt)))

@@ -1,5 +1,5 @@
 -- `nco::Nco::four` meets its contract (`Ahead.antt`). Assumes nothing.
-use Rattle.std.proofs.Common.{rules, ◌≡◌, ◌*◌, ◌+◌, refl, sym, ap, ◌∙◌, arith, [], length}
+use Rattle.std.proofs.Common.{rules, ◌≡◌, ◌*◌, ◌+◌, refl, sym, ◌∙◌, arith, [], length}
 use lib.ListN.{length-set}
 use Rattle.number.proofs.Eights.{eight_narrows}
 use Rattle.nco.proofs.Ahead.{widened_begins, widened_turns, widened_ends}

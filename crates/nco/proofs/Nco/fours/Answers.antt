@@ -1,5 +1,5 @@
 -- `nco::Nco::fours` meets its contract (`Ahead.antt`). Assumes nothing.
-use Rattle.std.proofs.Common.{rules, ◌≡◌, ◌*◌, ◌+◌, ◌/◌, ◌-◌, ◌≤◌, ℕ, List, take, drop, refl, sym, ap, ◌∙◌, arith, length, subst}
+use Rattle.std.proofs.Common.{rules, ◌≡◌, ◌*◌, ◌+◌, ◌-◌, ◌≤◌, ℕ, List, take, drop, ap, ◌∙◌, arith, length, subst}
 use lib.ListN.{length-drop}
 use lib.Ieee.{Float}
 use lib.Seq.{take_all}

@@ -1,5 +1,5 @@
 -- `nco::Nco::run` meets its contract: at the end of the slice there is nothing ahead (`Ahead.antt`). Assumes nothing.
-use Rattle.std.proofs.Common.{◌≡◌, ◌*◌, ◌%◌, ◌≤◌, ℕ, sym, ap, ◌∙◌, arith, List, length}
+use Rattle.std.proofs.Common.{◌≡◌, ◌*◌, ◌%◌, sym, ap, ◌∙◌, arith, List, length}
 use lib.Ieee.{Float}
 use borrow.Author.Tests.{eqb-true}
 use Rattle.nco.specs.declared.turn.Turn.{Turn}

@@ -1,5 +1,5 @@
 -- `nco::Nco::singles` meets its contract (`Ahead.antt`). Assumes nothing.
-use Rattle.std.proofs.Common.{◌≡◌, ◌*◌, ◌+◌, ◌/◌, ◌<◌, refl, ap, ◌∙◌, arith, length}
+use Rattle.std.proofs.Common.{◌*◌, ◌+◌, ◌<◌, refl, ap, ◌∙◌, arith, length}
 use lib.ListN.{length-set}
 use Rattle.nco.specs.Mix.{mixed_at}
 use Rattle.nco.proofs.Ahead.{ahead_turns}
