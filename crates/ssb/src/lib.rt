@@ -17,7 +17,7 @@ mod run;
 
 // What a demodulator is besides its taps and its histories, which the caller lends.
 #[repr(C)]
-#[derive(Clone, Copy)]
+#[derive(Clone, Copy, Default)]
 pub struct SsbDemodulator {
     pub is_usb: bool,
 }
