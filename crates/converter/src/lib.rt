@@ -14,6 +14,7 @@ ghost use Rattle.converter.specs.Gives.{Gives};
 use stage::Refusal;
 
 // Writes every byte's value to the same place of `dst`. Answers the number of the refusal, 0 for none.
+// Stays: C gets the number (`tl_convert`), and the clause speaks of it, so this call and the next answer no Result.
 pub fn convert(src: &[u8], dst: &mut [f32]) -> u32
     ensures { (result, dst.new) ≡ converted samples src.now dst.old }
 {

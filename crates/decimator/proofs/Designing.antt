@@ -1,4 +1,4 @@
--- The taps that a call writes: those of the lowpass filter where number and cutoff are allowed, and 0.75 / factor always is. Assumes nothing.
+-- The cutoff of a decimator that is made for a factor, 0.75 / factor, is always allowed. Assumes nothing.
 use Prim.Native.Nat.{ℕ, zero, suc, ◌+◌, ◌-◌, ◌≤◌, ◌<◌}
 use native.Mathlib.Nat.{add-zero}
 use native.Mathlib.Omega.{arith}
@@ -11,10 +11,6 @@ use Rattle.stage.proofs.Both.{both}
 use Rattle.lowpass.specs.Rules.{taps_allowed, cutoff_allowed}
 use Rattle.lowpass.specs.Lowpass.{lowpass, designed}
 use Rattle.decimator.specs.Making.{cutoff_for}
-
-pub designed_accepted : (taps out : List Float) (cutoff : Float) (r : ℕ) → taps_allowed (length taps) ≡ true → cutoff_allowed cutoff ≡ true
-    → (r, out) ≡ designed taps cutoff → out ≡ lowpass (length taps) cutoff
-designed_accepted taps out cutoff r t k e = ap (λ (p : ℕ × List Float). p.1) (rw (t, k) at e)
 
 -- ---- a test over n numbers from i on, computed
 

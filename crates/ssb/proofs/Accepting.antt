@@ -1,4 +1,4 @@
--- What number 0 says of what a demodulator is lent, and that the Hilbert filter is then not refused. Assumes nothing.
+-- What number 0 says of what a demodulator is lent. Assumes nothing.
 use Prim.Native.Nat.{ℕ, ◌+◌, ◌/◌, ◌%◌}
 use native.Mathlib.Omega.{arith}
 use mathlib.Core.Path.{◌≡◌, sym, ap, ◌∙◌}
@@ -31,9 +31,6 @@ ready taps q i e =
     let behind = eqb-true (q + 1) taps one.1 in
     record { sixty_five = long; sixty_four = omega arith; thirty_two = eqb-true i 32 two.1 }
 
-pub new_ready : (taps q i : ℕ) → new_refusal taps q i ≡ 0 → Ready taps q i
-new_ready taps q i e = ready taps q i (met (taps_allowed taps) true true (lengths_fit taps q i) true e).length
-
 pub process_ready : (taps q i n room : ℕ) → process_refusal taps q i n room ≡ 0 → Ready taps q i × Block n room
 process_ready taps q i n room e =
     let m = met (taps_allowed taps) true (is_within n) (is_even n && lengths_fit taps q i) (leb (n / 2) room) e in
@@ -45,12 +42,3 @@ process_ready taps q i n room e =
         roomy = leb-true (n / 2) room m.room;
       },
     )
-
--- so `HilbertFilter::new` writes its taps and clears the history of Q
-pub new_begun : (taps q : List Float) (i : ℕ) → new_refusal (length taps) (length q) i ≡ 0 → (r : HilbertDone) (taps' q' : List Float)
-    → (r, taps', q') ≡ hilbert.made taps q → (taps' ≡ hilbert_taps (length taps)) × (q' ≡ replicate (length q) plus_zero)
-new_begun taps q i e r taps' q' is =
-    let k = new_ready (length taps) (length q) i e in
-    let none : hilbert.new_refusal (length taps) (length q) ≡ 0 = rw (k.sixty_five, k.sixty_four) in
-    let gives = is ∙ sym (run_gives (hilbert.new_refusal (length taps) (length q)) _ _ none) in
-    (ap {B = List Float} (λ p. p.1) gives, ap {B = List Float} (λ p. p.2) gives)

@@ -24,10 +24,10 @@ impl SsbDemodulator {
             true,
         );
         if let Err(refusal) = demands {
-            return crate::rules::answer_of(u32::from(refusal), SsbDemodulator::default());
+            return SsbDemodulator::default().answer(u32::from(refusal), 0);
         }
         hilbert::HilbertFilter::new(taps, q_history);
         fir::clear(i_history);
-        crate::rules::answer_of(stage::NONE, SsbDemodulator { is_usb })
+        SsbDemodulator { is_usb }.answer(stage::NONE, 0)
     }
 }

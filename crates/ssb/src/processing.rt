@@ -29,7 +29,7 @@ impl SsbDemodulator {
             n / 2 <= output.len(),
         );
         if let Err(refusal) = demands {
-            return crate::rules::answer_of(u32::from(refusal), self);
+            return self.answer(u32::from(refusal), 0);
         }
         let mut lent = Lent {
             is_usb: self.is_usb,
@@ -38,10 +38,6 @@ impl SsbDemodulator {
             i_history,
         };
         lent.run(input, output);
-        SsbDone {
-            refusal: stage::NONE,
-            state: self,
-            count: n / 2,
-        }
+        self.answer(stage::NONE, n / 2)
     }
 }
