@@ -1,14 +1,13 @@
 -- A byte's value negated is that divided by -127.5: of each of the 256 bytes, by computation. Assumes nothing.
 use Prim.Native.Nat.{ℕ, suc, ◌<◌}
 use native.Mathlib.Nat.{zero-add}
-use native.Mathlib.Omega.{arith}
 use mathlib.Core.Path.{◌≡◌, refl, sym, ap, ◌∙◌}
 use mathlib.Core.List.{List, [], ◌∷◌}
-use lib.ListN.{length, get_or}
+use lib.ListN.{get_or}
 use lib.Ieee.{Float, nan, binary32, sub, div, neg, of_int, of_bits}
 use Rattle.stage.specs.Counted.{counted_from}
 use Rattle.stage.proofs.Counted.{counted_at}
-use Rattle.converter.specs.Convert.{sample_of, negated_of, divided_by, in_pairs}
+use Rattle.converter.specs.Convert.{negated_of, divided_by, in_pairs}
 
 -- as the code has it, by the bits of 127.5
 abbrev pub minus : Float

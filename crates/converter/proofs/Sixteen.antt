@@ -1,7 +1,7 @@
 -- Sixteen bytes side by side: what the lanes hold is the next sixteen values, and a slice that is filled with them is filled so far. Assumes nothing.
 use Prim.Native.Nat.{ℕ, zero, suc, ◌+◌, ◌≤◌}
 use native.Mathlib.Omega.{arith}
-use mathlib.Core.Path.{◌≡◌, refl, sym, ap, ◌∙◌}
+use mathlib.Core.Path.{◌≡◌, refl, ap, ◌∙◌}
 use mathlib.Core.List.{List, [], ◌∷◌, ◌++◌, map, append_assoc}
 use lib.ListN.{length, drop, take, length-append, length-drop}
 use lib.Seq.{length-take-le}

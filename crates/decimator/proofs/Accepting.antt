@@ -1,25 +1,17 @@
 -- What number 0 says of a decimator that is handed in, and of one that is made for a factor. Assumes nothing.
 use Prim.Native.Nat.{ℕ, ◌+◌, ◌*◌, ◌≤◌, ◌<◌}
-use native.Mathlib.Omega.{arith}
-use mathlib.Core.Path.{◌≡◌, sym, ap}
+use mathlib.Core.Path.{◌≡◌, sym}
 use mathlib.Core.Bool.{true, ◌&&◌}
-use mathlib.Core.List.{List}
 use lib.Dec.{eqb, leb, ltb}
-use lib.ListN.{length}
-use lib.Ieee.{Float}
-use borrow.Author.Tests.{eqb-true, leb-true, le-leb, ltb-true}
+use borrow.Author.Tests.{eqb-true, leb-true, ltb-true}
 use Rattle.stage.specs.Length.{is_within}
-use Rattle.stage.specs.Layout.{over}
 use Rattle.stage.proofs.Both.{both}
 use Rattle.stage.proofs.Refusals.{met}
-use Rattle.lowpass.specs.Rules.{taps_allowed, cutoff_allowed}
-use Rattle.fir.specs.Filter.{history_fits, count_of, filter_outs}
-use Rattle.fir.specs.Dot.{every_tap}
-use Rattle.fir.specs.Into.{fits, filtered_into}
+use Rattle.lowpass.specs.Rules.{taps_allowed}
+use Rattle.fir.specs.Filter.{history_fits, count_of}
 use Rattle.decimator.specs.Rules.{factor_allowed, state_allowed}
-use Rattle.decimator.specs.Making.{new_refusal, with_factor_refusal}
-use Rattle.decimator.specs.Process.{memory, process_refusal}
-use Rattle.decimator.specs.Settling.{update_refusal}
+use Rattle.decimator.specs.Making.{with_factor_refusal}
+use Rattle.decimator.specs.Process.{process_refusal}
 use Rattle.decimator.specs.declared.Decimator.{Decimator}
 
 -- a decimator that obeys the rules, with a history that fits

@@ -4,12 +4,9 @@ use native.Mathlib.Nat.{add-zero}
 use native.Mathlib.Omega.{arith}
 use mathlib.Core.Path.{◌≡◌, refl, ap, ◌∙◌}
 use mathlib.Core.Bool.{Bool, true, ◌&&◌}
-use mathlib.Core.List.{List}
-use lib.ListN.{length}
-use lib.Ieee.{Float, of_bits, of_int, div, le, lt}
+use lib.Ieee.{of_bits, of_int, div, le, lt}
 use Rattle.stage.proofs.Both.{both}
-use Rattle.lowpass.specs.Rules.{taps_allowed, cutoff_allowed}
-use Rattle.lowpass.specs.Lowpass.{lowpass, designed}
+use Rattle.lowpass.specs.Rules.{cutoff_allowed}
 use Rattle.decimator.specs.Making.{cutoff_for}
 
 -- ---- a test over n numbers from i on, computed

@@ -1,24 +1,16 @@
 -- What number 0 says of what a demodulator is lent. Assumes nothing.
 use Prim.Native.Nat.{ℕ, ◌+◌, ◌/◌, ◌%◌}
 use native.Mathlib.Omega.{arith}
-use mathlib.Core.Path.{◌≡◌, sym, ap, ◌∙◌}
+use mathlib.Core.Path.{◌≡◌}
 use mathlib.Core.Bool.{true, ◌&&◌}
-use mathlib.Core.List.{List}
 use lib.Dec.{eqb, leb}
-use lib.ListN.{length, replicate}
-use lib.Ieee.{Float}
 use borrow.Author.Tests.{eqb-true, leb-true}
 use Rattle.stage.specs.Length.{LONGEST, is_within, is_even}
-use Rattle.stage.specs.Floats.{plus_zero}
 use Rattle.stage.proofs.Both.{both}
-use Rattle.stage.proofs.Refusals.{met, run_gives}
+use Rattle.stage.proofs.Refusals.{met}
 use Rattle.fir.specs.Filter.{history_fits}
 use Rattle.hilbert.specs.Rules.{taps_allowed}
-use Rattle.hilbert.specs.Taps.{hilbert_taps}
-use Rattle.hilbert.specs.Making as hilbert
-use Rattle.hilbert.specs.declared.HilbertDone.{HilbertDone}
 use Rattle.ssb.specs.Rules.{lengths_fit}
-use Rattle.ssb.specs.Making.{new_refusal}
 use Rattle.ssb.specs.Process.{process_refusal}
 use Rattle.ssb.specs.Ready.{Ready, Block}
 

@@ -1,6 +1,5 @@
 -- `converter::convert` meets its contract: in pairs, with both divided by 127.5, every byte is converted. Assumes nothing.
-use mathlib.Core.Path.{◌≡◌, refl, ◌∙◌}
-use Prim.Native.Nat.{ℕ}
+use mathlib.Core.Path.{◌∙◌}
 use lib.Ieee.{binary32, of_bits}
 use Rattle.converter.specs.Convert.{sample_of, divided_by, samples, in_pairs}
 use Rattle.converter.proofs.Accepted.{same_converted}
