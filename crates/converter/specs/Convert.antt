@@ -23,6 +23,11 @@ negated_of s = div binary32 (neg (sub binary32 (of_int binary32 (pos s)) middle)
 abbrev pub samples : List ℕ → List Float
 samples src = map sample_of src
 
+-- a byte's distance from the middle, divided by another float: by that of the other sign, it is negated
+unfoldable pub divided_by : Float → ℕ → Float
+unfolding sub div of_int
+divided_by by s = div binary32 (sub binary32 (of_int binary32 (pos s)) middle) by
+
 -- I's value and what `of_q` makes of Q, pair by pair
 abbrev pub in_pairs : (ℕ → Float) → List ℕ → List Float
 in_pairs of_q [] = []

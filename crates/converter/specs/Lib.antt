@@ -1,4 +1,3 @@
--- Definitions that the public contracts cite: Convert. Cases has worked values of it, Gives is of the functions inside the crate alone.
+-- Definitions that the public contracts cite: Convert. Cases has worked values of it.
 pub mod Convert
-pub mod Gives
 pub mod Cases

@@ -1,25 +1,17 @@
--- What number 0 says of a decimator that is handed in, and what the filter then writes. Assumes nothing.
+-- What number 0 says of a decimator that is handed in, and of one that is made for a factor. Assumes nothing.
 use Prim.Native.Nat.{ℕ, ◌+◌, ◌*◌, ◌≤◌, ◌<◌}
-use native.Mathlib.Omega.{arith}
-use mathlib.Core.Path.{◌≡◌, sym, ap}
+use mathlib.Core.Path.{◌≡◌, sym}
 use mathlib.Core.Bool.{true, ◌&&◌}
-use mathlib.Core.List.{List}
 use lib.Dec.{eqb, leb, ltb}
-use lib.ListN.{length}
-use lib.Ieee.{Float}
-use borrow.Author.Tests.{eqb-true, leb-true, le-leb, ltb-true}
+use borrow.Author.Tests.{eqb-true, leb-true, ltb-true}
 use Rattle.stage.specs.Length.{is_within}
-use Rattle.stage.specs.Layout.{over}
 use Rattle.stage.proofs.Both.{both}
 use Rattle.stage.proofs.Refusals.{met}
-use Rattle.lowpass.specs.Rules.{taps_allowed, cutoff_allowed}
-use Rattle.fir.specs.Filter.{history_fits, count_of, filter_outs}
-use Rattle.fir.specs.Dot.{every_tap}
-use Rattle.fir.specs.Into.{fits, filtered_into}
+use Rattle.lowpass.specs.Rules.{taps_allowed}
+use Rattle.fir.specs.Filter.{history_fits, count_of}
 use Rattle.decimator.specs.Rules.{factor_allowed, state_allowed}
-use Rattle.decimator.specs.Making.{new_refusal, with_factor_refusal}
-use Rattle.decimator.specs.Process.{memory, process_refusal}
-use Rattle.decimator.specs.Settling.{update_refusal}
+use Rattle.decimator.specs.Making.{with_factor_refusal}
+use Rattle.decimator.specs.Process.{process_refusal}
 use Rattle.decimator.specs.declared.Decimator.{Decimator}
 
 -- a decimator that obeys the rules, with a history that fits
@@ -51,36 +43,7 @@ module _ (d : Decimator) (taps history n room : ℕ) (e : process_refusal d taps
       let m = met (state_allowed d taps) true (is_within n) (history_fits taps history) (leb (count_of d.factor d.phase n) room) e in
       sound d taps history m.setting m.length
 
-  -- so the filter has what it works on
-  pub process_fits : fits d.factor d.phase taps history n room ≡ true
-  process_fits =
-      let m = met (state_allowed d taps) true (is_within n) (history_fits taps history) (leb (count_of d.factor d.phase n) room) e in
-      let s = process_sound in
-      rw (m.length, le-leb 1 d.factor (omega (arith, s)), le-leb d.factor 64 s.factor_high, m.limit, m.room)
-
--- and leaves its outputs over what the slice held
-pub into_accepted : (d : Decimator) (taps history input output out : List Float) (r : ℕ)
-    → process_refusal d (length taps) (length history) (length input) (length output) ≡ 0
-    → (r, out) ≡ filtered_into d.factor d.phase taps history input output
-    → out ≡ over (filter_outs (every_tap d.factor taps) (memory d history) input) output
-into_accepted d taps history input output out r e is =
-    ap (λ (p : ℕ × List Float). p.1) (rw (process_fits d (length taps) (length history) (length input) (length output) e) at is)
-
--- ---- the calls that design taps
-
-pub update_allowed : (d : Decimator) (cutoff : Float) (taps history : ℕ) → update_refusal d cutoff taps history ≡ 0
-    → (taps_allowed taps ≡ true) × (cutoff_allowed cutoff ≡ true)
-update_allowed d cutoff taps history e =
-    let m = met (state_allowed d taps && cutoff_allowed cutoff) true true (history_fits taps history) true e in
-    let s = both (state_allowed d taps) (cutoff_allowed cutoff) m.setting in
-    ((sound d taps history s.0 m.length).allowed, s.1)
-
-pub new_allowed : (factor : ℕ) (cutoff : Float) (taps history : ℕ) → new_refusal factor cutoff taps history ≡ 0
-    → (taps_allowed taps ≡ true) × (cutoff_allowed cutoff ≡ true)
-new_allowed factor cutoff taps history e =
-    let m = met (factor_allowed factor && cutoff_allowed cutoff && taps_allowed taps) true true (history_fits taps history) true e in
-    let two = both (factor_allowed factor && cutoff_allowed cutoff) (taps_allowed taps) m.setting in
-    (two.1, (both (factor_allowed factor) (cutoff_allowed cutoff) two.0).1)
+-- ---- the call that designs its taps for a factor
 
 pub record WithFactor (factor taps : ℕ) : Type 0 where
   pub factor_low : 2 ≤ factor

@@ -1,20 +1,13 @@
--- The taps that a call writes: those of the lowpass filter where number and cutoff are allowed, and 0.75 / factor always is. Assumes nothing.
+-- The cutoff of a decimator that is made for a factor, 0.75 / factor, is always allowed. Assumes nothing.
 use Prim.Native.Nat.{ℕ, zero, suc, ◌+◌, ◌-◌, ◌≤◌, ◌<◌}
 use native.Mathlib.Nat.{add-zero}
 use native.Mathlib.Omega.{arith}
 use mathlib.Core.Path.{◌≡◌, refl, ap, ◌∙◌}
 use mathlib.Core.Bool.{Bool, true, ◌&&◌}
-use mathlib.Core.List.{List}
-use lib.ListN.{length}
-use lib.Ieee.{Float, of_bits, of_int, div, le, lt}
+use lib.Ieee.{of_bits, of_int, div, le, lt}
 use Rattle.stage.proofs.Both.{both}
-use Rattle.lowpass.specs.Rules.{taps_allowed, cutoff_allowed}
-use Rattle.lowpass.specs.Lowpass.{lowpass, designed}
+use Rattle.lowpass.specs.Rules.{cutoff_allowed}
 use Rattle.decimator.specs.Making.{cutoff_for}
-
-pub designed_accepted : (taps out : List Float) (cutoff : Float) (r : ℕ) → taps_allowed (length taps) ≡ true → cutoff_allowed cutoff ≡ true
-    → (r, out) ≡ designed taps cutoff → out ≡ lowpass (length taps) cutoff
-designed_accepted taps out cutoff r t k e = ap (λ (p : ℕ × List Float). p.1) (rw (t, k) at e)
 
 -- ---- a test over n numbers from i on, computed
 

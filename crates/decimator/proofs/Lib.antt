@@ -1,4 +1,4 @@
--- Laws of the decimator: what an accepted call knows, and the taps that it writes; then the theorems on streams. Assumes nothing.
+-- Laws of the decimator: what an accepted call knows, and its cutoff; then the theorems on streams. Assumes nothing.
 pub mod Accepting
 pub mod Designing
 -- demand 3: a stream may be cut at will, and damage to it passes

@@ -12,7 +12,7 @@ impl Decimator {
     pub fn new(factor: usize, cutoff: f32, taps: &mut [f32], history: &mut [f32]) -> Decimated
         ensures { (result, taps.new, history.new) ≡ made factor cutoff taps.old history.old }
     {
-        let number = stage::refusal(
+        let demands = stage::demands(
             crate::rules::factor_allowed(factor)
                 & lowpass::cutoff_allowed(cutoff)
                 & lowpass::taps_allowed(taps.len()),
@@ -21,8 +21,8 @@ impl Decimator {
             fir::history_fits(taps, history),
             true,
         );
-        if number != stage::NONE {
-            return crate::rules::none_made(number);
+        if let Err(refusal) = demands {
+            return Decimator::default().answer(u32::from(refusal), 0);
         }
         begin(factor, cutoff, taps, history)
     }
@@ -32,15 +32,15 @@ impl Decimator {
     pub fn with_factor(factor: usize, taps: &mut [f32], history: &mut [f32]) -> Decimated
         ensures { (result, taps.new, history.new) ≡ made_with_factor factor taps.old history.old }
     {
-        let number = stage::refusal(
+        let demands = stage::demands(
             crate::rules::factor_allowed(factor) & lowpass::taps_allowed(taps.len()),
             true,
             true,
             fir::history_fits(taps, history) & twelvefold(factor, taps.len()),
             true,
         );
-        if number != stage::NONE {
-            return crate::rules::none_made(number);
+        if let Err(refusal) = demands {
+            return Decimator::default().answer(u32::from(refusal), 0);
         }
         begin(factor, cutoff_for(factor), taps, history)
     }
@@ -53,7 +53,8 @@ fn begin(factor: usize, cutoff: f32, taps: &mut [f32], history: &mut [f32]) -> D
 {
     lowpass::design_lowpass(taps, cutoff);
     fir::clear(history);
-    crate::rules::answer_of(stage::NONE, Decimator { factor, phase: 0 })
+    let fresh = Decimator { factor, phase: 0 };
+    fresh.answer(stage::NONE, 0)
 }
 
 // Whether there are 12 x factor + 1 taps, asked so that no product can overflow.
@@ -64,6 +65,7 @@ fn twelvefold(factor: usize, taps: usize) -> bool
 }
 
 // One division: wider than the band that is left, so that the edges of an FM signal are not clipped.
+#[tactic(auto, unfolding(crate::specs::Making::cutoff_for))]
 fn cutoff_for(factor: usize) -> f32
     requires { factor ≤ 64 }
     ensures { result ≡ cutoff_for factor }

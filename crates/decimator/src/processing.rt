@@ -21,26 +21,23 @@ impl Decimator {
         let phase = self.phase;
         let n = input.len();
         let count = fir::count(factor, phase, n);
-        let number = stage::refusal(
-            crate::rules::state_allowed(self, taps.len()),
+        let demands = stage::demands(
+            self.state_allowed(taps.len()),
             true,
             stage::within(n),
             fir::history_fits(taps, history),
             count <= output.len(),
         );
-        if number != stage::NONE {
-            return crate::rules::answer_of(number, self);
+        if let Err(refusal) = demands {
+            return self.answer(u32::from(refusal), 0);
         }
         fir::filter_into(taps, history, input, output, factor, phase);
         fir::keep(history, input);
         let next = fir::next_phase(factor, phase, n);
-        Decimated {
-            refusal: stage::NONE,
-            state: Decimator {
-                factor,
-                phase: next,
-            },
-            count,
-        }
+        let after = Decimator {
+            factor,
+            phase: next,
+        };
+        after.answer(stage::NONE, count)
     }
 }

@@ -1,7 +1,7 @@
-// The rules on a decimator's settings, and the answers without outputs.
+// The rules on a decimator's settings, and its answers.
 ghost use Rattle.std.specs.Prelude.{◌≡◌};
 ghost use Rattle.decimator.specs.Rules.{factor_allowed, state_allowed};
-ghost use Rattle.decimator.specs.Answers.{answer, none};
+ghost use Rattle.decimator.specs.Answers.{answer};
 
 use crate::{Decimated, Decimator};
 
@@ -12,33 +12,22 @@ pub(crate) fn factor_allowed(factor: usize) -> bool
     (2 <= factor) & (factor <= 64)
 }
 
-// Whether a decimator that is handed in with this number of taps obeys the rules: its phase is below its factor.
-pub(crate) fn state_allowed(d: Decimator, taps: usize) -> bool
-    ensures { result ≡ state_allowed d taps }
-{
-    factor_allowed(d.factor) & (d.phase < d.factor) & lowpass::taps_allowed(taps)
-}
-
-// The answer of a call that gives no output.
-pub(crate) fn answer_of(number: u32, d: Decimator) -> Decimated
-    ensures { result ≡ answer number d 0 }
-{
-    Decimated {
-        refusal: number,
-        state: d,
-        count: 0,
+impl Decimator {
+    // Whether a decimator that is handed in with this number of taps obeys the rules: its phase is below its factor.
+    pub(crate) fn state_allowed(self, taps: usize) -> bool
+        ensures { result ≡ state_allowed self taps }
+    {
+        factor_allowed(self.factor) & (self.phase < self.factor) & lowpass::taps_allowed(taps)
     }
-}
 
-// The answer of a making call that is refused: a record of zeros.
-pub(crate) fn none_made(number: u32) -> Decimated
-    ensures { result ≡ answer number none 0 }
-{
-    answer_of(
-        number,
-        Decimator {
-            factor: 0,
-            phase: 0,
-        },
-    )
+    // This decimator in an answer.
+    pub(crate) fn answer(self, refusal: u32, count: usize) -> Decimated
+        ensures { result ≡ answer refusal self count }
+    {
+        Decimated {
+            refusal,
+            state: self,
+            count,
+        }
+    }
 }

@@ -10,24 +10,19 @@ impl Decimator {
     pub fn reset(self, taps: &[f32], history: &mut [f32]) -> Decimated
         ensures { (result, history.new) ≡ cleared self taps.now history.old }
     {
-        let number = stage::refusal(
-            crate::rules::state_allowed(self, taps.len()),
+        let demands = stage::demands(
+            self.state_allowed(taps.len()),
             true,
             true,
             fir::history_fits(taps, history),
             true,
         );
-        if number != stage::NONE {
-            return crate::rules::answer_of(number, self);
+        if let Err(refusal) = demands {
+            return self.answer(u32::from(refusal), 0);
         }
         fir::clear(history);
-        crate::rules::answer_of(
-            stage::NONE,
-            Decimator {
-                factor: self.factor,
-                phase: 0,
-            },
-        )
+        let cleared = Decimator { phase: 0, ..self };
+        cleared.answer(stage::NONE, 0)
     }
 
     // Writes the taps for another cutoff and keeps history and phase. Refused are SETTING for factor, phase,
@@ -36,17 +31,17 @@ impl Decimator {
     pub fn update_cutoff(self, cutoff: f32, taps: &mut [f32], history: &[f32]) -> Decimated
         ensures { (result, taps.new) ≡ retuned self cutoff taps.old history.now }
     {
-        let number = stage::refusal(
-            crate::rules::state_allowed(self, taps.len()) & lowpass::cutoff_allowed(cutoff),
+        let demands = stage::demands(
+            self.state_allowed(taps.len()) & lowpass::cutoff_allowed(cutoff),
             true,
             true,
             fir::history_fits(taps, history),
             true,
         );
-        if number != stage::NONE {
-            return crate::rules::answer_of(number, self);
+        if let Err(refusal) = demands {
+            return self.answer(u32::from(refusal), 0);
         }
         lowpass::design_lowpass(taps, cutoff);
-        crate::rules::answer_of(stage::NONE, self)
+        self.answer(stage::NONE, 0)
     }
 }

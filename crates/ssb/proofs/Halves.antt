@@ -1,28 +1,19 @@
 -- I and Q of two streams of pairs that differ at some positions differ at no others. Assumes nothing.
-use Prim.Native.Nat.{ℕ, zero, suc}
+use Prim.Native.Nat.{ℕ}
 use mathlib.Core.Path.{◌≡◌, refl, sym, ap, ◌∙◌}
 use mathlib.Core.List.{List, [], ◌∷◌, map}
-use lib.ListN.{take, drop, length-map}
+use lib.ListN.{length-map}
+use Rattle.std.specs.List.{take-map, drop-map}
 use Rattle.stage.specs.Layout.{firsts, seconds}
 use Rattle.fir.specs.Damage.{DifferWithin}
 
 module _ {A B : Type 0} (f : A → B) where
-  take_map : (n : ℕ) (l : List A) → take n (map f l) ≡ map f (take n l)
-  take_map zero l = refl
-  take_map (suc n) [] = refl
-  take_map (suc n) (x ∷ l) = ap {B = List B} (λ r. f x ∷ r) (take_map n l)
-
-  drop_map : (n : ℕ) (l : List A) → drop n (map f l) ≡ map f (drop n l)
-  drop_map zero l = refl
-  drop_map (suc n) [] = refl
-  drop_map (suc n) (x ∷ l) = drop_map n l
-
   differ_map : (a b : ℕ) (x y : List A) → DifferWithin a b x y → DifferWithin a b (map f x) (map f y)
   differ_map a b x y d =
       record {
         long = length-map x f ∙ d.long ∙ sym (length-map y f);
-        before = take_map a x ∙ ap (map f) d.before ∙ sym (take_map a y);
-        behind = drop_map b x ∙ ap (map f) d.behind ∙ sym (drop_map b y);
+        before = take-map f a x ∙ ap (map f) d.before ∙ sym (take-map f a y);
+        behind = drop-map f b x ∙ ap (map f) d.behind ∙ sym (drop-map f b y);
       }
 
 module _ {X : Type 0} where

@@ -16,18 +16,18 @@ impl SsbDemodulator {
     ) -> SsbDone
         ensures { (result, taps.new, q_history.new, i_history.new) ≡ made is_usb taps.old q_history.old i_history.old }
     {
-        let number = stage::refusal(
+        let demands = stage::demands(
             hilbert::taps_allowed(taps.len()),
             true,
             true,
             crate::rules::lengths_fit(taps, q_history, i_history),
             true,
         );
-        if number != stage::NONE {
-            return crate::rules::answer_of(number, SsbDemodulator { is_usb: false });
+        if let Err(refusal) = demands {
+            return SsbDemodulator::default().answer(u32::from(refusal), 0);
         }
         hilbert::HilbertFilter::new(taps, q_history);
         fir::clear(i_history);
-        crate::rules::answer_of(stage::NONE, SsbDemodulator { is_usb })
+        SsbDemodulator { is_usb }.answer(stage::NONE, 0)
     }
 }

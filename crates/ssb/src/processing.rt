@@ -21,15 +21,15 @@ impl SsbDemodulator {
         ensures { (result, q_history.new, i_history.new, output.new) ≡ processed self taps.now q_history.old i_history.old input.now output.old }
     {
         let n = input.len();
-        let number = stage::refusal(
+        let demands = stage::demands(
             hilbert::taps_allowed(taps.len()),
             true,
             stage::within(n),
             stage::even(n) & crate::rules::lengths_fit(taps, q_history, i_history),
             n / 2 <= output.len(),
         );
-        if number != stage::NONE {
-            return crate::rules::answer_of(number, self);
+        if let Err(refusal) = demands {
+            return self.answer(u32::from(refusal), 0);
         }
         let mut lent = Lent {
             is_usb: self.is_usb,
@@ -38,10 +38,6 @@ impl SsbDemodulator {
             i_history,
         };
         lent.run(input, output);
-        SsbDone {
-            refusal: stage::NONE,
-            state: self,
-            count: n / 2,
-        }
+        self.answer(stage::NONE, n / 2)
     }
 }

@@ -1,4 +1,4 @@
-// The rule on the lengths of a demodulator's slices, and the answer without outputs.
+// The rule on the lengths of a demodulator's slices, and its answers.
 ghost use Rattle.std.specs.Prelude.{◌≡◌, length};
 ghost use Rattle.ssb.specs.Rules.{lengths_fit};
 ghost use Rattle.ssb.specs.Answers.{answer};
@@ -12,13 +12,15 @@ pub(crate) fn lengths_fit(taps: &[f32], q_history: &[f32], i_history: &[f32]) ->
     (taps.len() == 65) & (q_history.len() + 1 == taps.len()) & (i_history.len() == 32)
 }
 
-// The answer of a call that gives no output.
-pub(crate) fn answer_of(number: u32, state: SsbDemodulator) -> SsbDone
-    ensures { result ≡ answer number state 0 }
-{
-    SsbDone {
-        refusal: number,
-        state,
-        count: 0,
+impl SsbDemodulator {
+    // This demodulator in an answer.
+    pub(crate) fn answer(self, refusal: u32, count: usize) -> SsbDone
+        ensures { result ≡ answer refusal self count }
+    {
+        SsbDone {
+            refusal,
+            state: self,
+            count,
+        }
     }
 }

@@ -1,31 +1,46 @@
--- `converter::fill` meets its contract: a turn writes the next pair. Assumes nothing.
-use Prim.Native.Nat.{◌+◌, ◌*◌, ◌≤◌, ◌<◌}
+-- `converter::fill` meets its contract: a turn writes the next sixteen values, or the next pair's. Assumes nothing.
+use Prim.Native.Nat.{ℕ, ◌+◌, ◌*◌, ◌≤◌, ◌<◌}
 use native.Mathlib.Omega.{arith}
-use mathlib.Core.Path.{◌≡◌, sym, ◌∙◌}
-use lib.ListN.{length, get_or, drop_of_length-le}
-use Rattle.stage.proofs.Filling.{filling_begins, filling_turns, filling_ends}
-use Rattle.converter.specs.Convert.{in_pairs}
+use mathlib.Core.Path.{◌≡◌, refl, sym, ◌∙◌}
+use lib.ListN.{length}
+use lib.Lanes.{chunk}
+use lib.Ieee.{binary32, sub, div, of_int, of_bits}
+use Rattle.stage.proofs.Filling.{filling_begins, filling_turns}
+use Rattle.converter.specs.Convert.{middle, sample_of, divided_by, in_pairs}
 use Rattle.converter.proofs.Values.{pairs_length, next_pair}
+use Rattle.converter.proofs.Sixteen.{values, sixteen, next_sixteen, filling_block}
 use Rattle.converter.proofs.fill.Goals as goal
 
+-- the byte's value, with 127.5 by its bits
+of_i : (s : ℕ) → divided_by (of_bits binary32 0x42ff_0000) s ≡ sample_of s
+unfolding divided_by sample_of of_bits
+of_i s = refl
+
 pub loop-k-init : goal.loop-k-init
-loop-k-init g c f h =
+loop-k-init c =
     let src = c.args.src.now in
-    filling_begins (in_pairs f src) c.args.dst.now (c.requires.lengths.0 ∙ sym (pairs_length f src c.requires.lengths.1))
+    let f = divided_by c.args.q_by in
+    filling_begins (in_pairs f src) c.args.dst.now (c.requires.0 ∙ sym (pairs_length f src c.requires.1))
 
 pub loop-k-preserved : goal.loop-k-preserved
-loop-k-preserved g c f h =
+unfolding sub div of_int of_bits divided_by sample_of
+loop-k-preserved c =
     let l = c.loop-k in
     let src = c.args.src.now in
+    let f = divided_by c.args.q_by in
+    let i = 16 * l.k in
+    let here : i + 16 ≤ length src = omega arith in
+    let next : 16 * (l.k + 1) ≡ i + 16 = omega arith in
+    rw next
+    (filling_block (in_pairs f (chunk i 16 src)) (values _ _ _ f middle c.args.q_by (λ s. refl) (λ s. refl) 8 (chunk i 16 src) (sixteen src i here))
+    (omega (arith, pairs_length f (chunk i 16 src) (omega (arith, sixteen src i here)), sixteen src i here)) (rw (next_sixteen src i here f) at l.invariant))
+
+pub loop-k-2-preserved : goal.loop-k-2-preserved
+loop-k-2-preserved c =
+    let l = c.loop-k-2 in
+    let src = c.args.src.now in
+    let f = divided_by c.args.q_by in
     let here : 2 * l.k + 1 < length src = omega arith in
-    let byte : get_or src (2 * l.k + 1) 0 < 256 = omega (arith, c.type_inv.src (2 * l.k + 1)) in
     let e₁ : 2 * (l.k + 1) ≡ 2 * l.k + 1 + 1 = omega arith in
     let e₂ : 2 * l.k + 2 ≡ 2 * l.k + 1 + 1 = omega arith in
-    rw (h _ c.of_q.result byte c.of_q.ensures, c.sample.ensures, e₁)
-    (filling_turns (filling_turns (rw (next_pair f src (2 * l.k) here, e₂) at (l.invariant f h))))
-
-pub returns : goal.returns
-returns g c f h =
-    let src = c.args.src.now in
-    let past : length src ≤ 2 * c.loop-k.k = omega (arith, c.requires.lengths) in
-    filling_ends {out = c.loop-k.dst} (rw (drop_of_length-le src past) at (c.loop-k.invariant f h))
+    rw (c.value-in-loop-k-2.ensures, c.value.ensures, of_i, e₁) (filling_turns (filling_turns (rw (next_pair f src (2 * l.k) here, e₂) at l.invariant)))
