@@ -1,16 +1,17 @@
--- What a trial of the audio gain control rests on: a signal's step whose output, gain and envelope are finite keeps its sample, and the gain and the
--- envelope before it were finite. Assumes nothing.
-use Prim.Native.Nat.{ℕ, ◌*◌, ◌<◌}
+-- What a trial of the audio gain control rests on: a signal's step whose gain and envelope are finite keeps its sample, and the gain and the envelope
+-- before it were finite. Assumes nothing.
+use Prim.Native.Nat.{ℕ, zero, suc, ◌+◌, ◌*◌, ◌^◌, ◌<◌}
 use native.Mathlib.Omega.{arith}
 use mathlib.Core.Path.{◌≡◌, refl, sym, ap, ◌∙◌}
-use mathlib.Core.Bool.{Bool, true, false, cond, true≢false, and-false}
-use lib.Ieee.{Float, nan, inf, fin, binary32, sub, mul, neg, lt, below, up, down, of_bits}
+use mathlib.Core.Bool.{Bool, true, false, cond, true≢false, false≢true, and-false}
+use lib.Dec.{ltb}
+use lib.Ieee.{Float, nan, inf, fin, binary32, sub, mul, neg, lt, below, up, down, of_bits, low, emax, prec, odd, units, round, unlike}
 use lib.Ieee.Scale.{finite}
 use borrow.Author.Tests.{ltb-true, le-ltb}
 use Rattle.number.specs.Kinds.{absolute}
 use Rattle.stage.specs.Floats.{one, blend_of}
 use Rattle.stage.specs.Run.{kept}
-use Rattle.stage.proofs.NotFinite.{add_not_finite, mul_not_finite_right, was_finite}
+use Rattle.stage.proofs.NotFinite.{add_not_finite, add_not_finite_right, mul_not_finite_right, was_finite}
 use Rattle.audio_agc.specs.declared.AudioAgc.{AudioAgc}
 use Rattle.audio_agc.specs.Level.{at_most, clamp_of, envelope_after}
 use Rattle.audio_agc.specs.Step.{clamp_one, keep_step, loud_step, audio_step}
@@ -83,13 +84,49 @@ unfolding clamp_of of_bits neg
 clamp_finite x h =
     cond_finite (lt x (neg one)) (at_most one (neg one)) (at_most one x) (cond_finite (lt one (neg one)) one (neg one) refl refl) (cond_finite (lt one x) one x refl h)
 
+-- a product of finite floats is finite or an infinity, so it is finite once it is clamped
+rounded : (b : Bool) (d : ℕ) (s : Bool) (q k l : ℕ) → finite (clamp_one (cond b (odd d s q k l) (inf s))) ≡ true
+unfolding odd clamp_of of_bits neg lt
+rounded true d s zero k l = clamp_finite (odd d s zero k l) refl
+rounded true d s (suc q) k l = clamp_finite (odd d s (suc q) k l) refl
+rounded false d true q k l = refl
+rounded false d false q k l = refl
+
+units_clamped : (s : Bool) (q k : ℕ) → finite (clamp_one (units binary32 s q k)) ≡ true
+unfolding units
+units_clamped s q k = rounded (ltb (q * 2 ^ k) (2 ^ (low binary32 + suc (emax binary32)))) (suc (prec binary32)) s q k (low binary32)
+
+round_clamped : (s : Bool) (num den : ℕ) → finite (clamp_one (round binary32 s num den)) ≡ true
+unfolding round
+round_clamped s num den = units_clamped s _ _
+
+product_clamped : (x gain : Float) → finite x ≡ true → finite gain ≡ true → finite (clamp_one (mul binary32 x gain)) ≡ true
+unfolding mul
+product_clamped nan gain h k = absurd (true≢false (sym h))
+product_clamped (inf s) gain h k = absurd (true≢false (sym h))
+product_clamped (fin s m e) nan h k = absurd (true≢false (sym k))
+product_clamped (fin s m e) (inf t) h k = absurd (true≢false (sym k))
+product_clamped (fin s m e) (fin t n d) h k = round_clamped (unlike s t) (m * up e * (n * up d)) (down e * down d)
+
+-- a sample from which a finite envelope comes was finite
+pub envelope_not_finite : (envelope x : Float) → finite envelope ≡ true → finite x ≡ false → finite (envelope_after envelope (absolute x)) ≡ false
+unfolding envelope_after absolute lt mul of_bits
+envelope_not_finite nan x e h = absurd (false≢true e)
+envelope_not_finite (inf s) x e h = absurd (false≢true e)
+envelope_not_finite (fin s m d) nan e h = add_not_finite_right binary32 _ nan refl
+envelope_not_finite (fin s m d) (inf t) e h = refl
+envelope_not_finite (fin s m d) (fin t n k) e h = absurd (true≢false h)
+
 -- ---- the step
 pub live_kept : (s : AudioAgc) (x : Float) (after : AudioAgc) → Moves s (envelope_after s.envelope (absolute x)) after
     → lt s.min_magnitude s.envelope ≡ true → lt s.min_magnitude (envelope_after s.envelope (absolute x)) ≡ true
-    → finite (mul binary32 x after.gain) ≡ true → (finite after.gain ≡ true) × (finite after.envelope ≡ true)
+    → (finite after.gain ≡ true) × (finite after.envelope ≡ true)
     → (audio_step s x ≡ kept (clamp_one (mul binary32 x after.gain)) after) × ((finite s.gain ≡ true) × (finite s.envelope ≡ true))
 unfolding audio_step loud_step keep_step
-live_kept s x after m low live out fine =
+live_kept s x after m low live fine =
     let e = envelope_after s.envelope (absolute x) in
     let is : after.envelope ≡ e = ap (λ (t : AudioAgc). t.envelope) m.stays in
-    (rw (lt_asym s.min_magnitude e live, m.lives x, clamp_finite (mul binary32 x after.gain) out, fine.0, fine.1), (m.was fine.0, envelope_was s.min_magnitude s.envelope (absolute x) low (rw is at fine.1)))
+    let new : finite e ≡ true = rw is at fine.1 in
+    let old = envelope_was s.min_magnitude s.envelope (absolute x) low new in
+    let sample = was_finite x e (envelope_not_finite s.envelope x old) new in
+    (rw (lt_asym s.min_magnitude e live, m.lives x, product_clamped x after.gain sample fine.0, fine.0, fine.1), (m.was fine.0, old))

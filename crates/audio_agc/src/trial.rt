@@ -1,7 +1,7 @@
 // A block tried: each sample worked as if it were kept, and as if it were a signal, without a test that anything
-// waits for. An envelope or a gain that is not finite stays so, so the last ones tell of all before them. The envelope
-// seldom rises: the samples that let it fall have a loop of their own, so that the next envelope does not wait for the
-// test which way this one went.
+// waits for. An envelope or a gain that is not finite stays so, so the last ones tell of all before them, and what comes
+// of finite ones is finite once it is clamped. The envelope seldom rises: the samples that let it fall have a loop of
+// their own, so that the next envelope does not wait for the test which way this one went.
 ghost use Rattle.std.specs.Prelude.{◌≡◌, true, map, ◌<◌, length, Some};
 ghost use Rattle.std.specs.Float.Ieee.{lt};
 ghost use Rattle.stage.specs.Lent.{mono};
@@ -34,7 +34,7 @@ impl AudioAgc {
                 k += 1;
             }
         }
-        if stage::both_finite(at.gain, at.envelope) & stage::all_finite(z) {
+        if stage::both_finite(at.gain, at.envelope) {
             Some(at)
         } else {
             None
