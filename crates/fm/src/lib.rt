@@ -18,7 +18,7 @@ ghost use Rattle.fm.specs.Process.{put, followed, process_into};
 use step::FmStep;
 
 #[repr(C)]
-#[derive(Clone, Copy)]
+#[derive(Clone, Copy, Default)]
 pub struct FmDemodulator {
     pub last_phase: f32,
     pub deemph_alpha: f32,

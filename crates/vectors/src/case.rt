@@ -12,6 +12,8 @@ pub struct Case<'a> {
     pub patterns: [u64; 6],
     // The answer that is told, and none where it is more than a call can answer.
     pub answer: Option<Answer>,
+    // Whether slices are told at all.
+    pub is_lent: bool,
     pub slices: Five<Told<'a>>,
 }
 
@@ -33,6 +35,7 @@ impl<'a> Case<'a> {
             singles: words.singles(singles),
             patterns: words.patterns(patterns),
             answer: Answer::read(&mut words, answer_singles, answer_patterns),
+            is_lent: slices > 0,
             slices: Five::read(&mut headers, &mut words),
         }
     }
