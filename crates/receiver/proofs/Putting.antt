@@ -1,12 +1,10 @@
 -- The sound put at the start of the output slice: what an accepted call gives, and that it counts no more than there is. Assumes nothing.
-use Prim.Native.Nat.{ℕ, ◌*◌, ◌-◌, ◌≤◌}
-use native.Mathlib.Nat.{sub-zero}
+use Prim.Native.Nat.{ℕ, ◌*◌, ◌≤◌}
 use native.Mathlib.Omega.{arith}
-use mathlib.Core.Path.{◌≡◌}
-use mathlib.Core.List.{List}
+use mathlib.Core.Path.{◌≡◌, refl}
+use mathlib.Core.List.{List, ◌++◌}
 use lib.ListN.{length, drop, length-append}
 use lib.Ieee.{Float}
-use borrow.Rule.Slice.PartMut.{put_mid}
 use Rattle.stage.specs.Layout.{over}
 use Rattle.stage.specs.Refusal.{NONE}
 use Rattle.receiver.specs.Sound.{memory, sound, after}
@@ -14,14 +12,14 @@ use Rattle.receiver.specs.Answers.{answer}
 use Rattle.receiver.specs.Receive.{heard_of, accepted}
 use Rattle.receiver.specs.declared.Receiver.{Receiver}
 
-put_first : (k : ℕ) (old new : List ℕ) → length new ≡ k → put_mid 0 (k - 0) old new ≡ over new old
-put_first k old new e = rw (sub-zero, e)
+put_first : (k : ℕ) (old new : List ℕ) → length new ≡ k → new ++ drop k old ≡ over new old
+put_first k old new e = rw e refl
 
-pub put_long : (k : ℕ) (old new : List ℕ) → length new ≡ k → k ≤ length (put_mid 0 (k - 0) old new)
-put_long k old new e = rw (put_first k old new e, length-append new (drop (length new) old)) (omega arith)
+pub put_long : (k : ℕ) (old new : List ℕ) → length new ≡ k → k ≤ length (new ++ drop k old)
+put_long k old new e = rw length-append (omega (arith, e))
 
 pub put_gives : (r s : Receiver) (taps i q i' q' : List Float) (input output out : List ℕ) (m : ℕ) → m ≡ heard_of r.phase (length input) → length out ≡ 4 * m
     → out ≡ sound taps (memory r i q) input → memory s i' q' ≡ after taps (memory r i q) input
-    → (answer NONE s (4 * m), i', q', put_mid 0 (4 * m - 0) output out) ≡ accepted r taps i q input output
+    → (answer NONE s (4 * m), i', q', out ++ drop (4 * m) output) ≡ accepted r taps i q input output
 put_gives r s taps i q i' q' input output out m is full is-sound is-after =
     rw (put_first (4 * m) output out full, is, is-sound, ← is-after)

@@ -1,6 +1,5 @@
 -- What the functions inside the crate ask of a receiver and of lengths: no public contract cites it. Definitions only.
-use Rattle.std.specs.Prelude.{ℕ, ◌+◌, ◌*◌, ◌/◌, ◌%◌, ◌≤◌, ◌<◌, ◌≡◌, true}
-use Rattle.fir.specs.Filter.{count_of}
+use Rattle.std.specs.Prelude.{ℕ, ◌%◌, ◌≤◌, ◌<◌, ◌≡◌, true}
 use Rattle.fm.specs.State as fm-state
 use Rattle.receiver.specs.declared.Receiver.{Receiver}
 
@@ -14,14 +13,3 @@ pub record Ready (r : Receiver) (taps i q n : ℕ) : Type 0 where
   pub q_long : q ≡ 120
   pub whole : n % 2 ≡ 0
   pub short : n ≤ 8192
-
--- room for what goes from stage to stage, of n bytes
-pub record Room (phase n output samples i q i-tenth q-tenth pairs heard : ℕ) : Type 0 where
-  pub samples_room : samples ≡ n
-  pub i_room : n ≡ i + i
-  pub q_room : q ≡ i
-  pub i_tenth_room : i-tenth ≡ count_of 10 phase (n / 2)
-  pub q_tenth_room : q-tenth ≡ i-tenth
-  pub pairs_room : pairs ≡ i-tenth + i-tenth
-  pub heard_room : heard ≡ i-tenth
-  pub output_room : output ≡ 4 * i-tenth

@@ -16,14 +16,20 @@ mod rules;
 
 use fm::FmDemodulator;
 
-// The most bytes of a block: what the scratch inside is made for.
+// The most bytes of a block, and the pairs in it: what the scratch inside is made for.
 pub const BLOCK: usize = 8192;
 
-// The most bytes of sound that a block gives: four for every tenth pair.
-pub const SOUND: usize = 1640;
+const PAIRS: usize = BLOCK / 2;
+
+// The most samples that a block gives, one for every tenth pair, and the bytes of their sound.
+const HEARD: usize = PAIRS / 10 + 1;
+
+const TENTHS: usize = 2 * HEARD;
+
+pub const SOUND: usize = 4 * HEARD;
 
 // What a receiver is besides its taps and its histories, which the caller lends.
-#[derive(Clone, Copy)]
+#[derive(Clone, Copy, Default)]
 pub struct Receiver {
     pub phase: usize,
     pub fm: FmDemodulator,

@@ -1,9 +1,8 @@
 // A receiver made: its taps designed, its histories cleared.
 ghost use Rattle.std.specs.Prelude.{◌≡◌};
-ghost use Rattle.receiver.specs.Answers as answers;
 ghost use Rattle.receiver.specs.Making.{made};
 
-use crate::{Received, Receiver};
+use crate::{Received, Receiver, rules};
 use decimator::Decimator;
 use fm::FmDemodulator;
 
@@ -13,27 +12,18 @@ impl Receiver {
     pub fn new(taps: &mut [f32], i_history: &mut [f32], q_history: &mut [f32]) -> Received
         ensures { (result, taps.new, i_history.new, q_history.new) ≡ made taps.old i_history.old q_history.old }
     {
-        let fits = crate::rules::lengths_fit(taps, i_history, q_history);
+        let fits = rules::lengths_fit(taps, i_history, q_history);
         let number = stage::refusal(true, true, true, fits, true);
         if number != stage::NONE {
-            return crate::rules::answer_of(number, none());
+            return Receiver::default().silent(number);
         }
         Decimator::with_factor(10, taps, i_history);
         Decimator::with_factor(10, taps, q_history);
         let made = FmDemodulator::new();
-        let fm = made.state;
-        crate::rules::answer_of(stage::NONE, Receiver { phase: 0, fm })
+        Receiver {
+            phase: 0,
+            fm: made.state,
+        }
+        .silent(stage::NONE)
     }
-}
-
-// The record of zeros.
-fn none() -> Receiver
-    ensures { result ≡ answers.none }
-{
-    let fm = FmDemodulator {
-        last_phase: 0.0,
-        deemph_alpha: 0.0,
-        deemph_state: 0.0,
-    };
-    Receiver { phase: 0, fm }
 }

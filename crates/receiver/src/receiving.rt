@@ -1,10 +1,8 @@
 // A block of bytes, received.
-ghost use Rattle.std.specs.Prelude.{◌≡◌, ◌*◌, ◌≤◌, length};
-ghost use Rattle.receiver.specs.Sound.{memory, sound, after};
-ghost use Rattle.receiver.specs.Receive.{heard_of, received};
-ghost use Rattle.receiver.specs.Ready.{Ready};
+ghost use Rattle.std.specs.Prelude.{◌≡◌, ◌≤◌, length};
+ghost use Rattle.receiver.specs.Receive.{received};
 
-use crate::{BLOCK, Received, Receiver};
+use crate::{BLOCK, Received, Receiver, rules};
 
 impl Receiver {
     // Writes the sound of a block to the start of `output`, as many bytes as the answer counts, and brings both
@@ -23,74 +21,23 @@ impl Receiver {
         ensures count { result.count ≤ length output.new }
     {
         let n = input.len();
-        let phase = self.phase;
-        let m = fir::count(10, phase, n / 2);
+        let m = fir::count(10, self.phase, n / 2);
         let number = stage::refusal(
-            crate::rules::setting(self),
-            crate::rules::state(self),
+            self.setting(),
+            self.state(),
             n <= BLOCK,
-            stage::even(n) & crate::rules::lengths_fit(taps, i_history, q_history),
+            stage::even(n) & rules::lengths_fit(taps, i_history, q_history),
             m <= output.len() / 4,
         );
         if number != stage::NONE {
-            return crate::rules::answer_of(number, self);
+            return self.silent(number);
         }
         let count = 4 * m;
-        let next = play(
-            self,
-            taps,
-            i_history,
-            q_history,
-            input,
-            &mut output[0..count],
-            m,
-        );
+        let state = self.play(taps, i_history, q_history, input, &mut output[..count]);
         Received {
             refusal: stage::NONE,
-            state: next,
+            state,
             count,
         }
     }
-}
-
-// The same, of a block that is not refused and that gives m samples: the room for what goes from stage to stage.
-fn play(
-    r: Receiver,
-    taps: &[f32],
-    i_history: &mut [f32],
-    q_history: &mut [f32],
-    input: &[u8],
-    output: &mut [u8],
-    m: usize,
-) -> Receiver
-    requires ready { Ready r (length taps.now) (length i_history.old) (length q_history.old) (length input.now) }
-    requires size { (m ≡ heard_of r.phase (length input.now)) × (m ≤ 410) × (length output.old ≡ 4 * m) }
-    ensures outputs { output.new ≡ sound taps.now (memory r i_history.old q_history.old) input.now }
-    ensures memory_after { memory result i_history.new q_history.new ≡ after taps.now (memory r i_history.old q_history.old) input.now }
-{
-    let n = input.len();
-    let half = n / 2;
-    let both = 2 * m;
-    let mut samples: [f32; BLOCK] = [0.0; BLOCK];
-    let mut i: [f32; 4096] = [0.0; 4096];
-    let mut q: [f32; 4096] = [0.0; 4096];
-    let mut i_tenth: [f32; 410] = [0.0; 410];
-    let mut q_tenth: [f32; 410] = [0.0; 410];
-    let mut pairs: [f32; 820] = [0.0; 820];
-    let mut heard: [f32; 410] = [0.0; 410];
-    crate::path::run(
-        r,
-        taps,
-        i_history,
-        q_history,
-        input,
-        output,
-        &mut samples[0..n],
-        &mut i[0..half],
-        &mut q[0..half],
-        &mut i_tenth[0..m],
-        &mut q_tenth[0..m],
-        &mut pairs[0..both],
-        &mut heard[0..m],
-    )
 }

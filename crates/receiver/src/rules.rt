@@ -5,20 +5,31 @@ ghost use Rattle.receiver.specs.Answers.{answer};
 
 use crate::{Received, Receiver};
 
-// Whether the phase is below ten and the demodulator's alpha is from 0 to 1.
-pub(crate) fn setting(r: Receiver) -> bool
-    ensures { result ≡ setting_met r }
-{
-    let fm = r.fm;
-    (r.phase < 10) & stage::in_unit(fm.deemph_alpha)
-}
+impl Receiver {
+    // Whether the phase is below ten and the demodulator's alpha is from 0 to 1.
+    pub(crate) fn setting(self) -> bool
+        ensures { result ≡ setting_met self }
+    {
+        (self.phase < 10) & stage::in_unit(self.fm.deemph_alpha)
+    }
 
-// Whether the demodulator's angle and de-emphasis are finite.
-pub(crate) fn state(r: Receiver) -> bool
-    ensures { result ≡ state_met r }
-{
-    let fm = r.fm;
-    stage::both_finite(fm.last_phase, fm.deemph_state)
+    // Whether the demodulator's angle and de-emphasis are finite.
+    pub(crate) fn state(self) -> bool
+        ensures { result ≡ state_met self }
+    {
+        stage::both_finite(self.fm.last_phase, self.fm.deemph_state)
+    }
+
+    // The answer of a call that gives no sound.
+    pub(crate) fn silent(self, refusal: u32) -> Received
+        ensures { result ≡ answer refusal self 0 }
+    {
+        Received {
+            refusal,
+            state: self,
+            count: 0,
+        }
+    }
 }
 
 // Whether there are 121 taps, 12 for each of the ten and one, and 120 places in either history.
@@ -26,15 +37,4 @@ pub(crate) fn lengths_fit(taps: &[f32], i_history: &[f32], q_history: &[f32]) ->
     ensures { result ≡ lengths_fit (length taps.now) (length i_history.now) (length q_history.now) }
 {
     (taps.len() == 121) & (i_history.len() == 120) & (q_history.len() == 120)
-}
-
-// The answer of a call that gives no sound.
-pub(crate) fn answer_of(number: u32, state: Receiver) -> Received
-    ensures { result ≡ answer number state 0 }
-{
-    Received {
-        refusal: number,
-        state,
-        count: 0,
-    }
 }

@@ -19,14 +19,13 @@ impl Answer {
         }
     }
 
-    // The answer that a file tells. With more numbers than an answer has, it is none.
-    pub fn read(words: &mut Reader, singles: usize, patterns: usize) -> Option<Answer> {
+    // The answer that a file tells, of so many numbers.
+    pub fn read(words: &mut Reader, singles: usize, patterns: usize) -> Answer {
         let told = words.take(singles);
-        let answer = Answer {
+        Answer {
             singles: array::from_fn(|i| words::at(told, i)),
             patterns: words.patterns(patterns),
-        };
-        (singles <= 6 && patterns <= 6).then_some(answer)
+        }
     }
 
     // The number of the refusal, 0 for none. (Of number work, the first whole number or double.)

@@ -75,6 +75,17 @@ impl TryFrom<u32> for Call {
 }
 
 impl Call {
+    // Whether the call is lent slices.
+    pub fn is_lent(self) -> bool {
+        match self {
+            Call::Number(_) => false,
+            Call::Conversion(_) | Call::Filter(_) | Call::Sideband(_) => true,
+            Call::Level(call) => call.is_lent(),
+            Call::Demodulator(call) => call.is_lent(),
+            Call::Oscillator(call) => call.is_lent(),
+        }
+    }
+
     // What the call answers by value. It leaves the rest in what it is lent.
     pub fn run(
         self,

@@ -10,8 +10,9 @@ pub struct Case<'a> {
     pub words: usize,
     pub singles: [f32; 6],
     pub patterns: [u64; 6],
-    // The answer that is told, and none where it is more than a call can answer.
+    // None where the case counts what no call has, so that it cannot agree.
     pub answer: Option<Answer>,
+    pub is_lent: bool,
     pub slices: Five<Told<'a>>,
 }
 
@@ -21,18 +22,24 @@ impl<'a> Case<'a> {
         let mut words = Reader::new(words);
         let line = words.word();
         let count = words.count();
-        let singles = words.count();
-        let patterns = words.count();
-        let answer_singles = words.count();
-        let answer_patterns = words.count();
+        let [given, given_patterns] = [words.count(), words.count()];
+        let [told, told_patterns] = [words.count(), words.count()];
         let slices = words.count();
         let mut headers = Reader::new(words.take(slices.saturating_mul(3)));
+        let singles = words.singles(given);
+        let patterns = words.patterns(given_patterns);
+        let answer = Answer::read(&mut words, told, told_patterns);
+        let is_case = (slices == 0 || slices == 5)
+            && [given, given_patterns, told, told_patterns]
+                .iter()
+                .all(|n| *n <= 6);
         Case {
             line,
             words: count,
-            singles: words.singles(singles),
-            patterns: words.patterns(patterns),
-            answer: Answer::read(&mut words, answer_singles, answer_patterns),
+            singles,
+            patterns,
+            answer: is_case.then_some(answer),
+            is_lent: slices > 0,
             slices: Five::read(&mut headers, &mut words),
         }
     }

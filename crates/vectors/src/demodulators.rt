@@ -15,6 +15,10 @@ pub enum Call {
 }
 
 impl Call {
+    pub fn is_lent(self) -> bool {
+        matches!(self, Call::FmProcessInto | Call::AmProcessInto)
+    }
+
     pub fn run(self, case: &Case, lent: &mut Five<Vec<f32>>) -> Answer {
         let s = case.singles;
         let input = lent.first.as_mut_slice();

@@ -62,7 +62,7 @@ impl<'a> Told<'a> {
     }
 
     // Whether the slice is as long as the file tells, and every place of it holds what the file tells after the call.
-    fn agrees(&self, lent: &[f32]) -> bool {
+    pub fn agrees(&self, lent: &[f32]) -> bool {
         let told = self.after.unwrap_or(self.before);
         self.length == lent.len()
             && lent
@@ -94,9 +94,9 @@ impl<'a> Five<Told<'a>> {
         })
     }
 
-    pub fn agree(&self, lent: &Five<Vec<f32>>) -> bool {
-        self.first.agrees(lent.first.as_slice())
-            && self.second.agrees(lent.second.as_slice())
+    // Whether each slice but the first agrees.
+    pub fn others_agree(&self, lent: &Five<Vec<f32>>) -> bool {
+        self.second.agrees(lent.second.as_slice())
             && self.third.agrees(lent.third.as_slice())
             && self.fourth.agrees(lent.fourth.as_slice())
             && self.fifth.agrees(lent.fifth.as_slice())

@@ -19,6 +19,10 @@ pub enum Call {
 }
 
 impl Call {
+    pub fn is_lent(self) -> bool {
+        !matches!(self, Call::DcRemoverNew | Call::AgcNew | Call::AudioAgcNew)
+    }
+
     pub fn run(self, case: &Case, lent: &mut Five<Vec<f32>>) -> Answer {
         let s = case.singles;
         let a = lent.first.as_mut_slice();

@@ -13,6 +13,10 @@ pub enum Call {
 }
 
 impl Call {
+    pub fn is_lent(self) -> bool {
+        matches!(self, Call::Mix)
+    }
+
     pub fn run(self, case: &Case, samples: &mut [f32]) -> Answer {
         let [a, b, c, d, e, f] = case.patterns.map(|p| f64_from_bits_with_nan(p));
         let state = Nco {
