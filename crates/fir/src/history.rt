@@ -20,7 +20,10 @@ pub fn keep(history: &mut [f32], input: &[f32])
     if h <= n {
         history.copy_from_slice(&input[n - h..]);
     } else {
-        history.copy_within(n.., 0);
+        // Stays: copy_within asks the C library for memmove, and the archive takes memcpy and memset alone (tests/symbols.sh).
+        for i in 0..h - n {
+            history[i] = history[i + n];
+        }
         history[h - n..].copy_from_slice(input);
     }
 }

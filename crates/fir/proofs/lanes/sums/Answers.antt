@@ -35,7 +35,7 @@ loop-tap-preserved c =
     let lanes = planes_turn a.z.now a.taps.now a.x.now a.factor a.q l.p l.k l.tap-index c.requires.filled.1 l.invariant.0 r l.invariant.1 (omega arith)
     l.acc c.turn.new.acc l.invariant.3 c.turn.ensures.1 in
     elim c.if-p-factor.branch [
-      then-p-factor w ↦ (omega (arith, w.p-is), rw (w.p-is, w.k-is) (omega (arith, w.if-p-factor.true, add-mul l.k 1 a.factor, one-mul a.factor)), c.turn.ensures.0, lanes)
+      | then-p-factor w ↦ (omega (arith, w.p-is), rw (w.p-is, w.k-is) (omega (arith, w.if-p-factor.true, add-mul l.k 1 a.factor, one-mul a.factor)), c.turn.ensures.0, lanes)
       | else-p-factor w ↦ (omega (arith, w.p-is, w.if-p-factor.false), rw (w.p-is, w.k-is) (omega arith), c.turn.ensures.0, lanes)
     ]
 

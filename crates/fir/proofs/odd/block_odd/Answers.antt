@@ -2,7 +2,6 @@
 use mathlib.Core.Path.{◌∙◌}
 use Prim.Native.Nat.{◌-◌, ◌*◌}
 use native.Mathlib.Omega.{arith}
-use lib.ListN.{length}
 use Rattle.fir.specs.Written.{odd_at}
 use Rattle.fir.proofs.Grown.{first_lanes, grows_to, all_grown}
 use Rattle.fir.proofs.odd.block_odd.Goals as goal

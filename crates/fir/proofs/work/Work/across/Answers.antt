@@ -1,5 +1,4 @@
 -- `fir::work::Work::across` meets its contract: the end of the history and the start of the input, one behind the other. Assumes nothing.
-use mathlib.Core.Path.{◌∙◌}
 use native.Mathlib.Omega.{arith}
 use Rattle.fir.proofs.gather.Gathered.{across_is}
 use Rattle.fir.proofs.work.Work.across.Goals as goal
