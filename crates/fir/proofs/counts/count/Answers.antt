@@ -16,11 +16,6 @@ pub returns-then-factor-eq0 : goal.returns-then-factor-eq0
 unfolding count_of
 returns-then-factor-eq0 c = rw c.if-factor-eq0.true (sym (div-zero _))
 
-pub overflow_add-result : goal.overflow_add-result
-overflow_add-result c =
-    let a = c.args in
-    omega (arith, div-le_self (a.n - a.phase - 1) a.factor)
-
 pub returns : goal.returns
 returns c =
     let a = c.args in

@@ -16,11 +16,6 @@ pub returns-then-factor-eq0 : goal.returns-then-factor-eq0
 unfolding next_phase count_of
 returns-then-factor-eq0 c = rw (c.if-factor-eq0.true, div-zero) (omega arith)
 
-pub overflow_sub-result-5 : goal.overflow_sub-result-5
-overflow_sub-result-5 c =
-    let a = c.args in
-    omega (arith, mod-lt (a.n - a.phase - 1) {m = a.factor} (omega arith))
-
 pub returns : goal.returns
 unfolding next_phase
 returns c =

@@ -21,12 +21,6 @@ loop-tap-init c =
     let a = c.args in
     (search rules, search rules, refl, lanes_start 32 a.taps.now a.x.now a.factor a.q)
 
-pub overflow_add-p : goal.overflow_add-p
-overflow_add-p c = let l = c.loop-tap in let r = row l.k c.args.q l.p l.tap-index (length c.args.taps.now) c.args.factor l.invariant.1 (omega arith) (omega arith) (omega arith) l.invariant.0 in omega arith
-
-pub turn-requires : goal.turn-requires
-turn-requires c = let l = c.loop-tap in let r = row l.k c.args.q l.p l.tap-index (length c.args.taps.now) c.args.factor l.invariant.1 (omega arith) (omega arith) (omega arith) l.invariant.0 in (search rules, (omega arith, omega arith, omega arith, omega arith))
-
 pub loop-tap-preserved : goal.loop-tap-preserved
 loop-tap-preserved c =
     let l = c.loop-tap in
