@@ -11,7 +11,7 @@ use Rattle.fir.proofs.history.keep.Goals as goal
 pub returns-then-h-n : goal.returns-then-h-n
 returns-then-h-n c =
     let a = c.args in
-    c.copy_from_slice.ensures.after ∙ keep_long a.history.now a.input.now (omega arith)
+    c.copy.ensures ∙ keep_long a.history.now a.input.now (omega arith)
 
 pub loop-i-preserved : goal.loop-i-preserved
 loop-i-preserved c =
@@ -26,4 +26,4 @@ returns-after-loop-i c =
     let m = length h - length x in
     let e : l.i ≡ m = omega arith in
     let moved = (rw e at l.invariant.0) ∙ take_rest h (length x) in
-    put_tail m l.history c.copy_from_slice-else-h-n.new.self ∙ rw (c.copy_from_slice-else-h-n.ensures.after, moved) (keep_short h x (omega arith))
+    put_tail m l.history c.copy-else-h-n.new.to ∙ rw (c.copy-else-h-n.ensures, moved) (keep_short h x (omega arith))

@@ -6,6 +6,6 @@ use Rattle.fir.proofs.work.Work.across.Goals as goal
 pub returns : goal.returns
 returns c =
     let w = c.args.self.now in
-    let e = c.copy_from_slice.ensures.after in
-    let e' = c.copy_from_slice-2.ensures.after in
+    let e = c.copy.ensures in
+    let e' = c.copy-2.ensures in
     rw (e, e') (across_is w.history.now w.input.now c.args.e.now c.args.at (omega arith) (omega arith) (omega arith))
