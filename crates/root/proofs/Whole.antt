@@ -14,12 +14,6 @@ use Rattle.root.specs.Inside.{IsRoot}
 pub below : (a b : ℕ) → a < b + 1 → a ≤ b
 below a b h = omega arith
 
-four_div : (n : ℕ) → n < 4 * (n / 4) + 4
-four_div n = omega arith
-
-four_le : (n : ℕ) → 4 * (n / 4) ≤ n
-four_le n = omega arith
-
 next_sq : (r : ℕ) → 4 * ((r + 1) * (r + 1)) ≡ (2 * r + 1 + 1) * (2 * r + 1 + 1)
 next_sq r = sym (double_sq (r + 1)) ∙ ap (λ (x : ℕ). x * x) (same r)
   where
