@@ -6,14 +6,5 @@ ghost use Rattle.std.specs.Float.Ieee.{to_unsigned};
 pub fn whole(x: f32) -> usize
     ensures { result ≡ to_unsigned 64 x }
 {
-    if x < 18446744073709551616.0 {
-        if x > -1.0 {
-            return std::num::truncating_f32_to_u64(x) as usize;
-        }
-        return 0;
-    }
-    if x != x {
-        return 0;
-    }
-    0xffff_ffff_ffff_ffff
+    std::num::saturating_f32_to_usize(x)
 }

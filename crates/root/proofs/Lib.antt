@@ -1,4 +1,4 @@
--- Laws of the square root. `Told` and `EveryRoot` have what a customer is promised of it; request 03's methods cite Whole and Scale.
+-- Laws of the square root. `Told` and `EveryRoot` have what a customer is promised of it, and `Operation` that the machine's operation is the definition.
 pub mod Squares
 pub mod Whole
 pub mod Rounds
@@ -8,6 +8,4 @@ pub mod Sides
 pub mod Near
 pub mod EveryRoot
 pub mod Told
-pub mod Patterns
-pub mod Scale
-pub mod Digit
+pub mod Operation

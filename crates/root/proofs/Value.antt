@@ -1,8 +1,8 @@
--- The root sees only the value: x as a count of smallest values, above zero and below it. Assumes nothing.
-use mathlib.Core.Path.{◌≡◌, refl, sym, ap, ◌∙◌, subst}
+-- The root sees only the value: x as a count of smallest values, above zero. Assumes nothing.
+use mathlib.Core.Path.{◌≡◌, sym, ap, ◌∙◌, subst}
 use Prim.Native.Nat.{ℕ, zero, suc, ◌*◌, ◌/◌, ◌^◌, ◌<◌}
 use native.Mathlib.Nat.{lt_irrefl, zero-mul, mul_assoc, mul_right_comm, mul-pos, mul-div_cancel}
-use mathlib.Core.Bool.{true, false, true≢false, false≢true}
+use mathlib.Core.Bool.{true, false, true≢false}
 use lib.IntN.{ℤ}
 use lib.Ieee.{Float, nan, inf, fin, Format, low, up, down}
 use lib.Ieee.Fits.{down_pos}
@@ -22,11 +22,3 @@ rooted_val f (fin false (suc m) e) a p h =
     ap (nearest_root f)
     (ap (λ (x : ℕ). x / down e) (sym (mul_assoc (suc m * up e) (2 ^ low f) (2 ^ low f)) ∙ ap (λ (x : ℕ). x * 2 ^ low f) h.1 ∙ mul_right_comm a (down e) (2 ^ low f))
     ∙ mul-div_cancel (a * 2 ^ low f) (down_pos e))
-
-pub rooted_below : (f : Format) (v : Float) (a c : ℕ) → 0 < a → HasValue v true a c → rooted f v ≡ nan
-unfolding rooted
-rooted_below f nan a c p h = absurd h
-rooted_below f (inf s) a c p h = absurd h
-rooted_below f (fin t zero e) a c p h = absurd (no_zero e a c p h.1)
-rooted_below f (fin true (suc m) e) a c p h = refl
-rooted_below f (fin false (suc m) e) a c p h = absurd (false≢true h.0)

@@ -1,7 +1,7 @@
--- `root` is the whole root, and the only one. Assumes nothing.
+-- `root` is the whole root. Assumes nothing.
 use mathlib.Core.Path.{◌≡◌, sym, ap, ◌∙◌, subst}
 use Prim.Native.Nat.{ℕ, zero, suc, ◌+◌, ◌*◌, ◌/◌, ◌^◌, ◌≤◌, ◌<◌, zero-le}
-use native.Mathlib.Nat.{le_refl, le_trans, le_of_eq, le_antisymm, lt_of_le_of_lt, lt_of_lt_of_le, div-lt_iff_lt-mul, pow-succ', pow-suc, zero-lt-suc}
+use native.Mathlib.Nat.{le_refl, le_trans, le_of_eq, lt_of_le_of_lt, lt_of_lt_of_le, div-lt_iff_lt-mul, pow-succ', pow-suc, zero-lt-suc}
 use native.Mathlib.Omega.{arith}
 use mathlib.Core.Bool.{Bool, true, false, not, cond}
 use lib.Dec.{T, leb, leb→le, nleb→lt}
@@ -13,12 +13,6 @@ use Rattle.root.specs.Inside.{IsRoot}
 
 pub below : (a b : ℕ) → a < b + 1 → a ≤ b
 below a b h = omega arith
-
-four_div : (n : ℕ) → n < 4 * (n / 4) + 4
-four_div n = omega arith
-
-four_le : (n : ℕ) → 4 * (n / 4) ≤ n
-four_le n = omega arith
 
 next_sq : (r : ℕ) → 4 * ((r + 1) * (r + 1)) ≡ (2 * r + 1 + 1) * (2 * r + 1 + 1)
 next_sq r = sym (double_sq (r + 1)) ∙ ap (λ (x : ℕ). x * x) (same r)
@@ -61,6 +55,3 @@ root_ge n r h = below r (root n) (sq_lt_back r (root n + 1) (lt_of_le_of_lt h (r
 
 pub root_lt : (n r : ℕ) → n < r * r → root n < r
 root_lt n r h = sq_lt_back (root n) r (lt_of_le_of_lt (root_law n).0 h)
-
-pub root_unique : (n r : ℕ) → IsRoot n r → root n ≡ r
-root_unique n r h = le_antisymm (below (root n) r (root_lt n (r + 1) h.1)) (root_ge n r h.0)

@@ -1,2 +1,0 @@
--- What the proof of the whole part uses.
-mod Range
