@@ -2,15 +2,12 @@
 use Prim.Native.Nat.{ℕ, ◌+◌, ◌/◌, ◌%◌}
 use native.Mathlib.Omega.{arith}
 use mathlib.Core.Path.{◌≡◌, ap}
-use mathlib.Core.Bool.{true, ◌&&◌}
+use mathlib.Core.Bool.{true}
 use mathlib.Core.List.{List}
-use lib.Dec.{eqb}
 use lib.ListN.{length}
 use lib.Ieee.{Float}
-use borrow.Author.Tests.{eqb-true, eq-eqb}
-use Rattle.stage.specs.Length.{is_even}
+use borrow.Author.Tests.{eq-eqb}
 use Rattle.stage.specs.Layout.{pairs, flat, zip, firsts, seconds}
-use Rattle.stage.proofs.Both.{both}
 use Rattle.halves.specs.Halves.{fit, apart, together}
 
 fit_is_true : (n i q : ℕ) → n ≡ i + i → q ≡ i → fit n i q ≡ true

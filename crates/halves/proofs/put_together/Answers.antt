@@ -2,15 +2,14 @@
 use Prim.Native.Nat.{◌+◌, ◌*◌, ◌≤◌, ◌<◌}
 use native.Mathlib.Numerals.{add-one}
 use native.Mathlib.Omega.{arith}
-use mathlib.Core.Path.{◌≡◌, refl}
+use mathlib.Core.Path.{◌≡◌}
 use mathlib.Core.List.{◌∷◌}
-use lib.ListN.{length, get_or, drop, length-set, drop_of_length-le}
+use lib.ListN.{length, get_or, drop, drop_of_length-le}
 use lib.Seq.{drop-cons}
 use lib.Ieee.{nan}
 use Rattle.stage.specs.Layout.{flat, zip}
 use Rattle.stage.proofs.Filling.{filling_begins, filling_turns, filling_ends}
 use Rattle.stage.proofs.Layouts.{length_zip, length_flat}
-use borrow.Author.Rules.{rules}
 use Rattle.halves.proofs.put_together.Goals as goal
 
 pub loop-k-init : goal.loop-k-init

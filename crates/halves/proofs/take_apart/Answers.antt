@@ -1,13 +1,12 @@
 -- `halves::take_apart` meets its contract. Assumes nothing.
 use Prim.Native.Nat.{◌+◌, ◌*◌, ◌≤◌, ◌<◌}
 use native.Mathlib.Omega.{arith}
-use mathlib.Core.Path.{◌≡◌, refl}
-use lib.ListN.{length, length-set, drop_of_length-le}
+use mathlib.Core.Path.{◌≡◌}
+use lib.ListN.{length, drop_of_length-le}
 use lib.Ieee.{nan}
 use Rattle.stage.specs.Layout.{pairs, firsts, seconds}
 use Rattle.stage.proofs.Layouts.{pairs_drop, length_pairs, length_firsts, length_seconds}
 use Rattle.stage.proofs.Filling.{filling_begins, filling_turns, filling_ends}
-use borrow.Author.Rules.{rules}
 use Rattle.halves.proofs.take_apart.Goals as goal
 
 pub loop-k-init : goal.loop-k-init

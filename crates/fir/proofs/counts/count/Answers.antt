@@ -1,6 +1,5 @@
 -- `fir::counts::count` meets its contract: one output, and one more for each whole factor behind it. Assumes nothing.
-use Prim.Native.Nat.{◌-◌}
-use native.Mathlib.Nat.{div-le_self, div-zero}
+use native.Mathlib.Nat.{div-zero}
 use native.Mathlib.Omega.{arith}
 use mathlib.Core.Path.{sym}
 use Rattle.fir.specs.Filter.{count_of}

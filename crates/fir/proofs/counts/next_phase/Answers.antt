@@ -1,6 +1,6 @@
 -- `fir::counts::next_phase` meets its contract: what is left of the last whole factor. Assumes nothing.
 use Prim.Native.Nat.{◌-◌, ◌/◌}
-use native.Mathlib.Nat.{div-add-mod', mod-lt, div-zero, add-mul, one-mul}
+use native.Mathlib.Nat.{div-add-mod', div-zero, add-mul, one-mul}
 use native.Mathlib.Omega.{arith}
 use mathlib.Core.Path.{sym}
 use Rattle.fir.specs.Filter.{count_of, next_phase}

@@ -3,7 +3,7 @@ use mathlib.Core.Path.{◌∙◌}
 use Prim.Native.Nat.{◌-◌, ◌*◌}
 use native.Mathlib.Omega.{arith}
 use Rattle.fir.specs.Written.{odd_at}
-use Rattle.fir.proofs.Grown.{first_lanes, grows_to, all_grown}
+use Rattle.fir.proofs.Grown.{first_lanes, grows_to}
 use Rattle.fir.proofs.odd.block_odd.Goals as goal
 
 pub loop-b-preserved : goal.loop-b-preserved

@@ -1,11 +1,10 @@
 -- `hilbert::taps::design` meets its contract. Assumes nothing.
 use Prim.Native.Nat.{◌-◌, ◌<◌}
 use native.Mathlib.Omega.{arith}
-use mathlib.Core.Path.{◌≡◌, refl, sym}
-use lib.ListN.{length, length-set}
+use mathlib.Core.Path.{◌≡◌, sym}
+use lib.ListN.{length}
 use Rattle.stage.proofs.Filling.{filling_begins, filling_turns, filling_ends, next_counted, length_counted}
 use Rattle.hilbert.specs.Taps.{tap_at, hilbert_taps}
-use borrow.Author.Rules.{rules}
 use Rattle.hilbert.proofs.taps.design.Goals as goal
 
 pub loop-i-init : goal.loop-i-init

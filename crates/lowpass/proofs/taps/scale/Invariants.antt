@@ -7,4 +7,4 @@ use Rattle.lowpass.proofs.taps.scale.Given as goal
 
 abbrev pub invariant-loop-t : goal.invariant-loop-t
 invariant-loop-t l =
-    Filling (map (divided_by l.sum) l.initial.t-items) l.t-index (map (divided_by l.sum) (drop l.t-index l.t-items)) l.t-items
+    Filling (map (divided_by l.sum) l.initial.taps) l.t-index (map (divided_by l.sum) (drop l.t-index l.taps)) l.taps

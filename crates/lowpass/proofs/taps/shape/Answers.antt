@@ -1,11 +1,10 @@
 -- `lowpass::taps::shape` meets its contract. Assumes nothing.
 use Prim.Native.Nat.{◌-◌, ◌<◌}
 use native.Mathlib.Omega.{arith}
-use mathlib.Core.Path.{◌≡◌, refl, sym}
-use lib.ListN.{length, length-set}
+use mathlib.Core.Path.{◌≡◌, sym}
+use lib.ListN.{length}
 use Rattle.stage.proofs.Filling.{filling_begins, filling_turns, filling_ends, next_counted, length_counted}
 use Rattle.lowpass.specs.Lowpass.{unscaled, shapes}
-use borrow.Author.Rules.{rules}
 use Rattle.lowpass.proofs.taps.shape.Goals as goal
 
 pub loop-i-init : goal.loop-i-init

@@ -4,7 +4,7 @@ use Prim.Native.Nat.{◌+◌, ◌-◌, ◌*◌}
 use native.Mathlib.Omega.{arith}
 use lib.ListN.{length}
 use Rattle.fir.specs.Written.{dots_of}
-use Rattle.fir.proofs.Grown.{first_lanes, grows_to, all_grown}
+use Rattle.fir.proofs.Grown.{first_lanes, grows_to}
 use Rattle.fir.proofs.Places.{window_fits}
 use Rattle.fir.proofs.planar.Planar.block.Goals as goal
 
