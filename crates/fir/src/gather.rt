@@ -11,7 +11,7 @@ impl Work<'_> {
     {
         let h = self.history.len();
         if h <= at {
-            e.copy_from_slice(&self.input[at - h..at - h + e.len()]);
+            copy(&self.input[at - h..at - h + e.len()], e);
         } else {
             self.across(at, e);
         }
@@ -24,7 +24,19 @@ impl Work<'_> {
     {
         let k = self.history.len() - at;
         let rest = e.len() - k;
-        e[..k].copy_from_slice(&self.history[at..]);
-        e[k..].copy_from_slice(&self.input[..rest]);
+        copy(&self.history[at..], &mut e[..k]);
+        copy(&self.input[..rest], &mut e[k..]);
+    }
+}
+
+// Writes `from` to a slice of as many places.
+// Stays: copy_from_slice becomes a call of memmove where the compiler can't tell the two apart, and the archive may call
+// memcpy and memset alone (tests/symbols.sh).
+pub(crate) fn copy(from: &[f32], to: &mut [f32])
+    requires { length to.old ≡ length from.now }
+    ensures { to.new ≡ from.now }
+{
+    for (i, x) in from.iter().enumerate() {
+        to[i] = *x;
     }
 }

@@ -3,6 +3,8 @@ ghost use Rattle.std.specs.Prelude.{◌≡◌, length, replicate};
 ghost use Rattle.stage.specs.Floats.{plus_zero};
 ghost use Rattle.fir.specs.Filter.{history_fits, kept};
 
+use crate::gather::copy;
+
 // Whether the history has one place less than there are taps.
 pub fn history_fits(taps: &[f32], history: &[f32]) -> bool
     ensures { result ≡ history_fits (length taps.now) (length history.now) }
@@ -18,10 +20,13 @@ pub fn keep(history: &mut [f32], input: &[f32])
     let h = history.len();
     let n = input.len();
     if h <= n {
-        history.copy_from_slice(&input[n - h..]);
+        copy(&input[n - h..], history);
     } else {
-        history.copy_within(n.., 0);
-        history[h - n..].copy_from_slice(input);
+        // Stays: copy_within calls memmove, and the archive may call memcpy and memset alone (tests/symbols.sh).
+        for i in 0..h - n {
+            history[i] = history[i + n];
+        }
+        copy(input, &mut history[h - n..]);
     }
 }
 

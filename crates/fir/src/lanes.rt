@@ -4,7 +4,13 @@ ghost use Rattle.std.specs.Prelude.{◌≡◌, ◌+◌, ◌*◌, ◌<◌, ◌≤
 ghost use Rattle.fir.specs.Planes.{Upto, Turned, Summed};
 
 // One tap of all lanes: each adds its own sample times the tap.
-pub(crate) fn turn<const N: usize>(acc: &mut [f32; N], x: &[f32], place: usize, step: usize, tap: f32)
+pub(crate) fn turn<const N: usize>(
+    acc: &mut [f32; N],
+    x: &[f32],
+    place: usize,
+    step: usize,
+    tap: f32,
+)
     requires { (length acc.old ≡ N) × (step ≤ 64) × (N ≤ 32) × (place + N * step < length x.now + step) }
     ensures { (length acc.new ≡ N) × Turned N acc.old x.now place step tap acc.new }
 {

@@ -1,26 +1,14 @@
--- Lengths that fit, and what the calls give on them. Assumes nothing.
+-- What the calls give on lengths that fit. Assumes nothing.
 use Prim.Native.Nat.{ℕ, ◌+◌, ◌/◌, ◌%◌}
 use native.Mathlib.Omega.{arith}
 use mathlib.Core.Path.{◌≡◌, ap}
-use mathlib.Core.Bool.{true, ◌&&◌}
+use mathlib.Core.Bool.{true}
 use mathlib.Core.List.{List}
-use lib.Dec.{eqb}
 use lib.ListN.{length}
 use lib.Ieee.{Float}
-use borrow.Author.Tests.{eqb-true, eq-eqb}
-use Rattle.stage.specs.Length.{is_even}
+use borrow.Author.Tests.{eq-eqb}
 use Rattle.stage.specs.Layout.{pairs, flat, zip, firsts, seconds}
-use Rattle.stage.proofs.Both.{both}
 use Rattle.halves.specs.Halves.{fit, apart, together}
-
-pub fit_lengths : (n i q : ℕ) → fit n i q ≡ true → (n ≡ i + i) × (q ≡ i)
-fit_lengths n i q e =
-    let two = both (is_even n && eqb (n / 2) i) (eqb (n / 2) q) e in
-    let one = both (is_even n) (eqb (n / 2) i) two.0 in
-    let even = eqb-true (n % 2) 0 one.0 in
-    let first = eqb-true (n / 2) i one.1 in
-    let second = eqb-true (n / 2) q two.1 in
-    (omega arith, omega arith)
 
 fit_is_true : (n i q : ℕ) → n ≡ i + i → q ≡ i → fit n i q ≡ true
 fit_is_true n i q e f =

@@ -1,2 +1,2 @@
--- Laws of the halves: what lengths that fit say, and what the calls then give. Assumes nothing.
+-- Laws of the halves: what the calls give on lengths that fit. Assumes nothing.
 pub mod Lengths

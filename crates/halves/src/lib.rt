@@ -39,11 +39,9 @@ fn take_apart(input: &[f32], i: &mut [f32], q: &mut [f32])
     requires { (length input.now ≡ length i.old + length i.old) × (length q.old ≡ length i.old) }
     ensures { (i.new ≡ firsts (pairs input.now)) × (q.new ≡ seconds (pairs input.now)) }
 {
-    let mut k = 0;
-    while k < i.len() {
+    for k in 0..i.len() {
         i[k] = input[2 * k];
         q[k] = input[2 * k + 1];
-        k += 1;
     }
 }
 
@@ -51,10 +49,8 @@ fn put_together(i: &[f32], q: &[f32], output: &mut [f32])
     requires { (length output.old ≡ length i.now + length i.now) × (length q.now ≡ length i.now) }
     ensures { output.new ≡ flat (zip i.now q.now) }
 {
-    let mut k = 0;
-    while k < i.len() {
+    for k in 0..i.len() {
         output[2 * k] = i[k];
         output[2 * k + 1] = q[k];
-        k += 1;
     }
 }

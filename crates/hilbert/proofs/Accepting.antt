@@ -1,16 +1,16 @@
 -- What number 0 says of a Hilbert filter that is handed in, and what the filter then writes. Assumes nothing.
-use Prim.Native.Nat.{ℕ, ◌+◌, ◌%◌, ◌≤◌}
+use Prim.Native.Nat.{ℕ, ◌+◌, ◌≤◌}
 use mathlib.Core.Path.{◌≡◌, sym, ap, ◌∙◌}
-use mathlib.Core.Bool.{true, ◌&&◌}
+use mathlib.Core.Bool.{true}
 use mathlib.Core.List.{List}
-use lib.Dec.{eqb, leb}
+use lib.Dec.{leb}
 use lib.ListN.{length}
 use lib.Ieee.{Float}
-use borrow.Author.Tests.{eqb-true, leb-true, le-leb}
+use borrow.Author.Tests.{eqb-true, le-leb}
 use Rattle.stage.specs.Length.{is_within}
 use Rattle.stage.specs.Layout.{over}
-use Rattle.stage.proofs.Both.{both}
 use Rattle.stage.proofs.Refusals.{met}
+use Rattle.stage.proofs.TapCounts.{tap_count}
 use Rattle.fir.specs.Filter.{history_fits}
 use Rattle.fir.specs.Each.{each_outs}
 use Rattle.fir.specs.Dot.{odd_taps}
@@ -28,13 +28,8 @@ pub record Sound (taps history : ℕ) : Type 0 where
 
 sound : (taps history : ℕ) → taps_allowed taps ≡ true → history_fits taps history ≡ true → Sound taps history
 sound taps history t l =
-    let odd = eqb (taps % 2) 1 in
-    let two = both (odd && leb 3 taps) (leb taps 129) t in
-    record {
-      least = leb-true 3 taps (both odd (leb 3 taps) two.0).1;
-      most = leb-true taps 129 two.1;
-      long = sym (eqb-true (history + 1) taps l);
-    }
+    let count = tap_count 129 taps t in
+    record { least = count.least; most = count.most; long = sym (eqb-true (history + 1) taps l) }
 
 pub new_sound : (taps history : ℕ) → new_refusal taps history ≡ 0 → Sound taps history
 new_sound taps history e =

@@ -11,15 +11,10 @@ impl HilbertFilter {
     pub fn new(taps: &mut [f32], history: &mut [f32]) -> HilbertDone
         ensures { (result, taps.new, history.new) ≡ made taps.old history.old }
     {
-        let number = stage::refusal(
-            crate::rules::taps_allowed(taps.len()),
-            true,
-            true,
-            fir::history_fits(taps, history),
-            true,
-        );
-        if number != stage::NONE {
-            return crate::rules::answer_of(number);
+        let allowed = crate::rules::taps_allowed(taps.len());
+        let fits = fir::history_fits(taps, history);
+        if let Err(refusal) = stage::demands(allowed, true, true, fits, true) {
+            return crate::rules::answer_of(u32::from(refusal));
         }
         crate::taps::design(taps);
         fir::clear(history);

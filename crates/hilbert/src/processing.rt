@@ -16,15 +16,15 @@ impl HilbertFilter {
     ) -> HilbertDone
         ensures { (result, history.new, output.new) ≡ processed taps.now history.old input.now output.old }
     {
-        let number = stage::refusal(
+        let demands = stage::demands(
             crate::rules::taps_allowed(taps.len()),
             true,
             stage::within(input.len()),
             fir::history_fits(taps, history),
             input.len() <= output.len(),
         );
-        if number != stage::NONE {
-            return crate::rules::answer_of(number);
+        if let Err(refusal) = demands {
+            return crate::rules::answer_of(u32::from(refusal));
         }
         let count = fir::filter_odd_into(taps, history, input, output);
         fir::keep(history, input);

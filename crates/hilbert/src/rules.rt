@@ -9,7 +9,7 @@ use crate::HilbertDone;
 pub fn taps_allowed(n: usize) -> bool
     ensures { result ≡ taps_allowed n }
 {
-    (n % 2 == 1) & (3 <= n) & (n <= 129)
+    stage::odd_up_to(n, 129)
 }
 
 // The answer of a call that gives no output.

@@ -11,10 +11,8 @@ pub(crate) fn design(taps: &mut [f32])
     requires { (0 < length taps.old) × (length taps.old ≤ 129) }
     ensures { taps.new ≡ hilbert_taps (length taps.old) }
 {
-    let mut i = 0;
-    while i < taps.len() {
+    for i in 0..taps.len() {
         taps[i] = tap(taps.len(), i);
-        i += 1;
     }
 }
 

@@ -1,11 +1,12 @@
 -- The rules of document 01, "Settings", on a lowpass filter's number of taps and its cutoff. Definitions only.
-use Rattle.std.specs.Prelude.{ℕ, ◌%◌, Bool, ◌&&◌, eqb, leb, Float}
+use Rattle.std.specs.Prelude.{ℕ, Bool, ◌&&◌, Float}
 use Rattle.std.specs.Float.{binary32}
 use Rattle.std.specs.Float.Ieee.{of_bits, le, lt}
+use Rattle.stage.specs.Taps.{odd_up_to}
 
 -- odd, 3 to 769
 abbrev pub taps_allowed : ℕ → Bool
-taps_allowed n = eqb (n % 2) 1 && leb 3 n && leb n 769
+taps_allowed n = odd_up_to 769 n
 
 -- 1/1024 and 0.5
 abbrev pub least : Float

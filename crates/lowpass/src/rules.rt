@@ -6,7 +6,7 @@ ghost use Rattle.lowpass.specs.Rules.{taps_allowed, cutoff_allowed};
 pub fn taps_allowed(n: usize) -> bool
     ensures { result ≡ taps_allowed n }
 {
-    (n % 2 == 1) & (3 <= n) & (n <= 769)
+    stage::odd_up_to(n, 769)
 }
 
 // Whether a cutoff is at least 1/1024 and below 0.5; NaN is not.

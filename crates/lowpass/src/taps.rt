@@ -1,25 +1,18 @@
 // The design: each place's sinc times its window, then all divided by their sum.
 ghost use Rattle.std.specs.Prelude.{◌≡◌, map, ◌<◌, ◌≤◌, length};
-ghost use Rattle.lowpass.specs.Lowpass.{sinc, hamming, unscaled, shapes, total, divided_by, lowpass, refusal_of, designed};
+ghost use Rattle.lowpass.specs.Lowpass.{sinc, hamming, unscaled, shapes, total, divided_by, lowpass, designed};
 
 // Writes the taps of a lowpass filter with this cutoff, as many as the slice has places. Answers the number
 // of the refusal, 0 for none: SETTING where the number of taps or the cutoff is not allowed.
 pub fn design_lowpass(taps: &mut [f32], cutoff: f32) -> u32
     ensures { (result, taps.new) ≡ designed taps.old cutoff }
 {
-    let number = refusal(taps.len(), cutoff);
-    if number == stage::NONE {
-        fill(taps, cutoff);
+    let allowed = crate::rules::taps_allowed(taps.len()) & crate::rules::cutoff_allowed(cutoff);
+    if let Err(refusal) = stage::demands(allowed, true, true, true, true) {
+        return u32::from(refusal);
     }
-    number
-}
-
-// The number for n taps and this cutoff.
-fn refusal(n: usize, cutoff: f32) -> u32
-    ensures { result ≡ refusal_of n cutoff }
-{
-    let allowed = crate::rules::taps_allowed(n) & crate::rules::cutoff_allowed(cutoff);
-    stage::refusal(allowed, true, true, true, true)
+    fill(taps, cutoff);
+    stage::NONE
 }
 
 fn fill(taps: &mut [f32], cutoff: f32)
@@ -35,10 +28,8 @@ fn shape(taps: &mut [f32], cutoff: f32)
     requires { (0 < length taps.old) × (length taps.old ≤ 769) }
     ensures { taps.new ≡ shapes (length taps.old) cutoff }
 {
-    let mut i = 0;
-    while i < taps.len() {
+    for i in 0..taps.len() {
         taps[i] = tap(taps.len() - 1, cutoff, i);
-        i += 1;
     }
 }
 
@@ -46,10 +37,8 @@ fn sum_of(taps: &[f32]) -> f32
     ensures { result ≡ total taps.now }
 {
     let mut sum = 0.0;
-    let mut i = 0;
-    while i < taps.len() {
-        sum = sum + taps[i];
-        i += 1;
+    for t in taps {
+        sum += *t;
     }
     sum
 }
@@ -57,10 +46,8 @@ fn sum_of(taps: &[f32]) -> f32
 fn scale(taps: &mut [f32], sum: f32)
     ensures { taps.new ≡ map (divided_by sum) taps.old }
 {
-    let mut i = 0;
-    while i < taps.len() {
-        taps[i] = taps[i] / sum;
-        i += 1;
+    for t in taps.iter_mut() {
+        *t /= sum;
     }
 }
 

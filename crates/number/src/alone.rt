@@ -8,13 +8,14 @@ ghost use Rattle.std.specs.Float.Ieee.Nearest.{closest};
 ghost use Rattle.number.specs.Narrow.{narrowed};
 
 // The f32 nearest to x, a tie to the even one; as Rust's `as f32`.
+#[tactic(auto, using(crate::proofs::narrow::Through::laws))]
 pub fn narrow(x: f64) -> f32
     ensures { result ≡ narrowed x }
 {
     if x != x {
-        return 0.0 / 0.0;
+        return f32::NAN;
     }
-    let b = f64::to_bits(x);
+    let b = x.to_bits();
     let m = b % 0x8000_0000_0000_0000;
     if m >= 0x3810_0000_0000_0000 {
         if m < 0x47ef_ffff_f000_0000 {

@@ -6,13 +6,14 @@ ghost use Rattle.std.specs.Float.Ieee.{of_fields, nan_bits};
 ghost use Rattle.number.specs.Narrow.{narrowed};
 
 // The f32 nearest to x, a tie to the even one; as Rust's `as f32`.
+#[tactic(auto, using(crate::proofs::narrow::Through::laws))]
 pub fn narrow(x: f64) -> f32
     ensures { result ≡ narrowed x }
 {
     if x != x {
-        return 0.0 / 0.0;
+        return f32::NAN;
     }
-    f32::from_bits(narrow_bits(f64::to_bits(x)))
+    f32::from_bits(narrow_bits(x.to_bits()))
 }
 
 // The pattern of the f32 nearest to the f64 with the pattern b.

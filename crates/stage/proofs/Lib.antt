@@ -44,5 +44,7 @@ pub mod AllFinite
 pub mod Trial
 pub mod InParts
 pub mod SplitParts
+-- what the rule on a filter's number of taps says
+pub mod TapCounts
 -- what a call gives, from what its code knows
 pub mod Gives

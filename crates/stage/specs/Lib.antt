@@ -19,4 +19,5 @@ pub mod IntoCalls
 pub mod InTurn
 pub mod Burst
 pub mod Named
+pub mod Taps
 pub mod Cases

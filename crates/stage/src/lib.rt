@@ -14,9 +14,11 @@ mod numbers;
 mod runs;
 mod settings;
 mod step;
+mod taps;
 
 pub use block::{all_finite, copy};
 pub use numbers::{LONGEST, NONE, Refusal, demands, even, within};
 pub use runs::{Feedback, Ran, run_into, run_mono, run_pairs};
 pub use settings::{in_unit, not_negative, positive};
 pub use step::{blend, both_finite};
+pub use taps::odd_up_to;

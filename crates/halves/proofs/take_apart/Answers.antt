@@ -1,14 +1,12 @@
--- `halves::take_apart` meets its contract. The loop's invariant: the first k places hold I and Q of the first k pairs, and those of the rest are
--- to come. The measure is the places left. Assumes nothing.
+-- `halves::take_apart` meets its contract. Assumes nothing.
 use Prim.Native.Nat.{◌+◌, ◌*◌, ◌≤◌, ◌<◌}
 use native.Mathlib.Omega.{arith}
-use mathlib.Core.Path.{◌≡◌, refl}
-use lib.ListN.{length, length-set, drop_of_length-le}
+use mathlib.Core.Path.{◌≡◌}
+use lib.ListN.{length, drop_of_length-le}
 use lib.Ieee.{nan}
 use Rattle.stage.specs.Layout.{pairs, firsts, seconds}
 use Rattle.stage.proofs.Layouts.{pairs_drop, length_pairs, length_firsts, length_seconds}
 use Rattle.stage.proofs.Filling.{filling_begins, filling_turns, filling_ends}
-use borrow.Author.Rules.{rules}
 use Rattle.halves.proofs.take_apart.Goals as goal
 
 pub loop-k-init : goal.loop-k-init
@@ -16,15 +14,9 @@ loop-k-init c =
     let a = c.args in
     let ps = pairs a.input.now in
     let half : length ps ≡ length a.i.now = omega (arith, length_pairs a.input.now) in (
-      refl,
-      refl,
-      search rules,
       filling_begins (firsts ps) a.i.now (omega (arith, length_firsts ps)),
       filling_begins (seconds ps) a.q.now (omega (arith, length_seconds ps)),
     )
-
-pub loop-k-smaller : goal.loop-k-smaller
-loop-k-smaller c = simp length-set (omega arith)
 
 pub loop-k-preserved : goal.loop-k-preserved
 loop-k-preserved c =
@@ -33,11 +25,8 @@ loop-k-preserved c =
     let here : 2 * l.k + 1 < length x = omega arith in
     let e : 2 * (l.k + 1) ≡ 2 * l.k + 2 = omega arith in
     let next = pairs_drop x (2 * l.k) nan here in (
-      simp length-set l.invariant.0,
-      simp length-set l.invariant.1,
-      simp length-set (omega arith),
-      rw e (filling_turns (rw next at l.invariant.3)),
-      rw e (filling_turns (rw next at l.invariant.4)),
+      rw e (filling_turns (rw next at l.invariant.0)),
+      rw e (filling_turns (rw next at l.invariant.1)),
     )
 
 pub returns : goal.returns
@@ -45,4 +34,4 @@ returns c =
     let l = c.loop-k in
     let x = c.args.input.now in
     let past : length x ≤ 2 * l.k = omega arith in
-    (filling_ends (rw (drop_of_length-le x past) at l.invariant.3), filling_ends (rw (drop_of_length-le x past) at l.invariant.4))
+    (filling_ends (rw (drop_of_length-le x past) at l.invariant.0), filling_ends (rw (drop_of_length-le x past) at l.invariant.1))

@@ -1,6 +1,5 @@
 -- `fir::counts::count` meets its contract: one output, and one more for each whole factor behind it. Assumes nothing.
-use Prim.Native.Nat.{◌-◌}
-use native.Mathlib.Nat.{div-le_self, div-zero}
+use native.Mathlib.Nat.{div-zero}
 use native.Mathlib.Omega.{arith}
 use mathlib.Core.Path.{sym}
 use Rattle.fir.specs.Filter.{count_of}
@@ -15,11 +14,6 @@ returns-then-n-phase c =
 pub returns-then-factor-eq0 : goal.returns-then-factor-eq0
 unfolding count_of
 returns-then-factor-eq0 c = rw c.if-factor-eq0.true (sym (div-zero _))
-
-pub overflow_add-result : goal.overflow_add-result
-overflow_add-result c =
-    let a = c.args in
-    omega (arith, div-le_self (a.n - a.phase - 1) a.factor)
 
 pub returns : goal.returns
 returns c =

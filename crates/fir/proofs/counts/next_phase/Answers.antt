@@ -1,6 +1,6 @@
 -- `fir::counts::next_phase` meets its contract: what is left of the last whole factor. Assumes nothing.
 use Prim.Native.Nat.{◌-◌, ◌/◌}
-use native.Mathlib.Nat.{div-add-mod', mod-lt, div-zero, add-mul, one-mul}
+use native.Mathlib.Nat.{div-add-mod', div-zero, add-mul, one-mul}
 use native.Mathlib.Omega.{arith}
 use mathlib.Core.Path.{sym}
 use Rattle.fir.specs.Filter.{count_of, next_phase}
@@ -15,11 +15,6 @@ returns-then-n-phase c =
 pub returns-then-factor-eq0 : goal.returns-then-factor-eq0
 unfolding next_phase count_of
 returns-then-factor-eq0 c = rw (c.if-factor-eq0.true, div-zero) (omega arith)
-
-pub overflow_sub-result-5 : goal.overflow_sub-result-5
-overflow_sub-result-5 c =
-    let a = c.args in
-    omega (arith, mod-lt (a.n - a.phase - 1) {m = a.factor} (omega arith))
 
 pub returns : goal.returns
 unfolding next_phase

@@ -21,12 +21,6 @@ loop-tap-init c =
     let a = c.args in
     (search rules, search rules, refl, lanes_start 32 a.taps.now a.x.now a.factor a.q)
 
-pub overflow_add-p : goal.overflow_add-p
-overflow_add-p c = let l = c.loop-tap in let r = row l.k c.args.q l.p l.tap-index (length c.args.taps.now) c.args.factor l.invariant.1 (omega arith) (omega arith) (omega arith) l.invariant.0 in omega arith
-
-pub turn-requires : goal.turn-requires
-turn-requires c = let l = c.loop-tap in let r = row l.k c.args.q l.p l.tap-index (length c.args.taps.now) c.args.factor l.invariant.1 (omega arith) (omega arith) (omega arith) l.invariant.0 in (search rules, (omega arith, omega arith, omega arith, omega arith))
-
 pub loop-tap-preserved : goal.loop-tap-preserved
 loop-tap-preserved c =
     let l = c.loop-tap in
@@ -35,7 +29,7 @@ loop-tap-preserved c =
     let lanes = planes_turn a.z.now a.taps.now a.x.now a.factor a.q l.p l.k l.tap-index c.requires.filled.1 l.invariant.0 r l.invariant.1 (omega arith)
     l.acc c.turn.new.acc l.invariant.3 c.turn.ensures.1 in
     elim c.if-p-factor.branch [
-      then-p-factor w ↦ (omega (arith, w.p-is), rw (w.p-is, w.k-is) (omega (arith, w.if-p-factor.true, add-mul l.k 1 a.factor, one-mul a.factor)), c.turn.ensures.0, lanes)
+      | then-p-factor w ↦ (omega (arith, w.p-is), rw (w.p-is, w.k-is) (omega (arith, w.if-p-factor.true, add-mul l.k 1 a.factor, one-mul a.factor)), c.turn.ensures.0, lanes)
       | else-p-factor w ↦ (omega (arith, w.p-is, w.if-p-factor.false), rw (w.p-is, w.k-is) (omega arith), c.turn.ensures.0, lanes)
     ]
 

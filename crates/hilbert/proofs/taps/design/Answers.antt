@@ -1,33 +1,29 @@
--- `hilbert::taps::design` meets its contract. The loop's invariant: the places before i hold their taps, and the rest are to come. The measure is the places left. Assumes nothing.
+-- `hilbert::taps::design` meets its contract. Assumes nothing.
 use Prim.Native.Nat.{◌-◌, ◌<◌}
 use native.Mathlib.Omega.{arith}
-use mathlib.Core.Path.{◌≡◌, refl, sym}
-use lib.ListN.{length, length-set}
+use mathlib.Core.Path.{◌≡◌, sym}
+use lib.ListN.{length}
 use Rattle.stage.proofs.Filling.{filling_begins, filling_turns, filling_ends, next_counted, length_counted}
 use Rattle.hilbert.specs.Taps.{tap_at, hilbert_taps}
-use borrow.Author.Rules.{rules}
 use Rattle.hilbert.proofs.taps.design.Goals as goal
 
 pub loop-i-init : goal.loop-i-init
 loop-i-init c =
     let taps = c.args.taps.now in
     let z : length taps - 0 ≡ length taps = omega arith in
-    (refl, search rules, rw z (filling_begins (hilbert_taps (length taps)) taps (sym (length_counted (tap_at (length taps)) 0 (length taps)))))
-
-pub loop-i-smaller : goal.loop-i-smaller
-loop-i-smaller c = simp length-set (omega arith)
+    rw z (filling_begins (hilbert_taps (length taps)) taps (sym (length_counted (tap_at (length taps)) 0 (length taps))))
 
 pub loop-i-preserved : goal.loop-i-preserved
 loop-i-preserved c =
     let l = c.loop-i in
     let n = length c.args.taps.now in
     let h : l.i < n = omega arith in
-    let e : length l.taps ≡ n = l.invariant.0 in
-    (simp length-set l.invariant.0, simp length-set (omega arith), rw (c.tap.ensures, e) (filling_turns (rw (next_counted (tap_at n) l.i n h) at l.invariant.2)))
+    let e : length l.taps ≡ n = l.auto.taps in
+    rw (c.tap.ensures, e) (filling_turns (rw (next_counted (tap_at n) l.i n h) at l.invariant))
 
 pub returns : goal.returns
 returns c =
     let l = c.loop-i in
     let n = length c.args.taps.now in
     let e : n - l.i ≡ 0 = omega arith in
-    filling_ends (rw e at l.invariant.2)
+    filling_ends (rw e at l.invariant)

@@ -1,11 +1,10 @@
--- `lowpass::taps::shape` meets its contract. The loop's invariant: the places before i hold their taps, and the rest are to come. The measure is the places left. Assumes nothing.
+-- `lowpass::taps::shape` meets its contract. Assumes nothing.
 use Prim.Native.Nat.{◌-◌, ◌<◌}
 use native.Mathlib.Omega.{arith}
-use mathlib.Core.Path.{◌≡◌, refl, sym}
-use lib.ListN.{length, length-set}
+use mathlib.Core.Path.{◌≡◌, sym}
+use lib.ListN.{length}
 use Rattle.stage.proofs.Filling.{filling_begins, filling_turns, filling_ends, next_counted, length_counted}
 use Rattle.lowpass.specs.Lowpass.{unscaled, shapes}
-use borrow.Author.Rules.{rules}
 use Rattle.lowpass.proofs.taps.shape.Goals as goal
 
 pub loop-i-init : goal.loop-i-init
@@ -13,10 +12,7 @@ loop-i-init c =
     let taps = c.args.taps.now in
     let cutoff = c.args.cutoff in
     let z : length taps - 0 ≡ length taps = omega arith in
-    (refl, search rules, rw z (filling_begins (shapes (length taps) cutoff) taps (sym (length_counted (unscaled (length taps - 1) cutoff) 0 (length taps)))))
-
-pub loop-i-smaller : goal.loop-i-smaller
-loop-i-smaller c = simp length-set (omega arith)
+    rw z (filling_begins (shapes (length taps) cutoff) taps (sym (length_counted (unscaled (length taps - 1) cutoff) 0 (length taps))))
 
 pub loop-i-preserved : goal.loop-i-preserved
 loop-i-preserved c =
@@ -24,11 +20,11 @@ loop-i-preserved c =
     let n = length c.args.taps.now in
     let h : l.i < n = omega arith in
     let e : length l.taps - 1 ≡ n - 1 = omega arith in
-    (simp length-set l.invariant.0, simp length-set (omega arith), rw (c.tap.ensures, e) (filling_turns (rw (next_counted (unscaled (n - 1) c.args.cutoff) l.i n h) at l.invariant.2)))
+    rw (c.tap.ensures, e) (filling_turns (rw (next_counted (unscaled (n - 1) c.args.cutoff) l.i n h) at l.invariant))
 
 pub returns : goal.returns
 returns c =
     let l = c.loop-i in
     let n = length c.args.taps.now in
     let e : n - l.i ≡ 0 = omega arith in
-    filling_ends (rw e at l.invariant.2)
+    filling_ends (rw e at l.invariant)

@@ -1,6 +1,5 @@
--- `lowpass::taps::shape` meets its contract. The loop's invariant: the places before i hold their taps, and the rest are to come. The measure is the places left. Assumes nothing.
-use Prim.Native.Nat.{◌-◌, ◌≤◌}
-use mathlib.Core.Path.{◌≡◌}
+-- `lowpass::taps::shape` meets its contract. The loop's invariant: the places before i hold their taps, and the rest are to come. Assumes nothing.
+use Prim.Native.Nat.{◌-◌}
 use lib.ListN.{length}
 use Rattle.stage.specs.Counted.{counted_from}
 use Rattle.stage.proofs.Filling.{Filling}
@@ -9,7 +8,4 @@ use Rattle.lowpass.proofs.taps.shape.Given as goal
 
 abbrev pub invariant-loop-i : goal.invariant-loop-i
 invariant-loop-i l =
-    (length l.taps ≡ length l.initial.taps) × (l.i ≤ length l.taps) × Filling (shapes (length l.initial.taps) l.cutoff) l.i (counted_from (unscaled (length l.initial.taps - 1) l.cutoff) l.i (length l.initial.taps - l.i)) l.taps
-
-abbrev pub decreases-loop-i : goal.decreases-loop-i
-decreases-loop-i l = length l.taps - l.i
+    Filling (shapes (length l.initial.taps) l.cutoff) l.i (counted_from (unscaled (length l.initial.taps - 1) l.cutoff) l.i (length l.initial.taps - l.i)) l.taps

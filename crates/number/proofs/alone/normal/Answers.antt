@@ -1,21 +1,14 @@
 -- `number::alone::normal` meets its contract (`Whole.antt`). Assumes nothing.
-use Rattle.std.proofs.Common.{ℕ, ◌+◌, ◌-◌, ◌*◌, ◌/◌, ◌≤◌, sym, ap, ◌∙◌, subst, arith}
+use Rattle.std.proofs.Common.{ℕ, ◌+◌, ◌-◌, ◌*◌, ◌/◌, ◌≤◌, sym, ap, ◌∙◌, subst}
 use lib.Ieee.{binary32, of_bits}
 use Rattle.number.proofs.narrow.Signed.{signed_number}
-use Rattle.number.proofs.alone.Whole.{enough, small, out_is}
+use Rattle.number.proofs.alone.Whole.{small, out_is}
 use Rattle.number.proofs.alone.normal.Goals as goal
-
-pub overflow_sub-result : goal.overflow_sub-result
-overflow_sub-result c =
-    omega (arith, enough c.args.b c.ranges.b.fits c.requires.0 c.requires.1)
 
 -- what the pattern without the sign is at most
 rest_le : (c : goal.After-rounded) → c.rounded.result - 7516192768 ≤ 2139095040
 rest_le c =
     subst (λ (x : ℕ). x - 7516192768 ≤ 2139095040) (sym c.rounded.ensures) (small c.args.b c.ranges.b.fits c.requires.0 c.requires.1)
-
-pub overflow_cast-result : goal.overflow_cast-result
-overflow_cast-result c = omega (arith, rest_le c)
 
 pub returns : goal.returns
 returns c =

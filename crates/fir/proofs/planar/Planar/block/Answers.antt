@@ -4,7 +4,7 @@ use Prim.Native.Nat.{◌+◌, ◌-◌, ◌*◌}
 use native.Mathlib.Omega.{arith}
 use lib.ListN.{length}
 use Rattle.fir.specs.Written.{dots_of}
-use Rattle.fir.proofs.Grown.{first_lanes, grows_to, all_grown}
+use Rattle.fir.proofs.Grown.{first_lanes, grows_to}
 use Rattle.fir.proofs.Places.{window_fits}
 use Rattle.fir.proofs.planar.Planar.block.Goals as goal
 
@@ -21,6 +21,3 @@ loop-b-preserved c =
     ∙ first_lanes v acc.result g (end - g) (omega (arith, acc.ensures))
     (λ i h. acc.ensures.1 i (omega arith) (window_fits w.factor (g + i) (length c.args.output.now) (length w.taps.now) n (omega arith) (omega (arith, c.requires)))) in
     grows_to v l.output _ g l.auto.output l.invariant c.copy_from_slice.new.self 32 end _ (omega arith) (omega arith) (omega arith) ys
-
-pub returns : goal.returns
-returns c = let l = c.loop-b in all_grown _ l.output _ (32 * l.b) l.auto.output l.invariant (omega arith)

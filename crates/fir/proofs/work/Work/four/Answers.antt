@@ -1,15 +1,11 @@
 -- `fir::work::Work::four` meets its contract: the four windows lie in the input, or each is read by itself. Assumes nothing.
-use mathlib.Core.Path.{◌≡◌, refl, ap, ◌∙◌}
-use mathlib.Core.List.{◌++◌}
-use Prim.Native.Nat.{ℕ, ◌+◌, ◌-◌, ◌*◌, ◌≤◌}
+use mathlib.Core.Path.{◌≡◌, refl, ◌∙◌}
+use Prim.Native.Nat.{◌+◌, ◌-◌}
 use native.Mathlib.Nat.{add-mul}
 use native.Mathlib.Omega.{arith}
-use lib.ListN.{length, take, drop, length-set, length-drop}
-use lib.Ieee.{Float}
+use lib.ListN.{length, length-set, length-drop}
 use Rattle.std.proofs.lemmas.List.{take_rest}
-use Rattle.stage.specs.Counted.{counted}
-use Rattle.stage.proofs.Counted.{counted_same}
-use Rattle.fir.specs.Written.{dot_at, dots_of, output_of}
+use Rattle.fir.specs.Written.{output_of}
 use Rattle.fir.proofs.Counting.{count_in}
 use Rattle.fir.proofs.Grown.{grows_by_one, grown}
 use Rattle.fir.proofs.window.Across.{dots_in}

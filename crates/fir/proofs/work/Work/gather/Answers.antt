@@ -8,4 +8,4 @@ use Rattle.fir.proofs.work.Work.gather.Goals as goal
 pub returns-then-h-at : goal.returns-then-h-at
 returns-then-h-at c =
     let w = c.args.self.now in
-    c.copy_from_slice.ensures.after ∙ part_second w.history.now w.input.now c.args.at (length c.args.e.now) (omega arith)
+    c.copy.ensures ∙ part_second w.history.now w.input.now c.args.at (length c.args.e.now) (omega arith)

@@ -1,0 +1,7 @@
+-- `fir::gather::copy` meets its contract. The loop's invariant: the first i elements are written. Assumes nothing.
+use mathlib.Core.Path.{◌≡◌}
+use lib.ListN.{take}
+use Rattle.fir.proofs.gather.copy.Given as goal
+
+abbrev pub invariant-loop-i : goal.invariant-loop-i
+invariant-loop-i l = take l.i l.to ≡ take l.i l.«from»
