@@ -1,6 +1,6 @@
-// A block tried: each sample worked as if it were kept, and as if it were a signal, without a test that anything
-// waits for. An envelope or a gain that is not finite stays so, so the last ones tell of all before them, and what comes
-// of finite ones is finite once it is clamped. The envelope seldom rises: the samples that let it fall have a loop of
+// A block tried: each sample worked as if it were kept, without a test of that, up to the first in dead air. An
+// envelope or a gain that is not finite stays so, so the last ones tell of all before them, and what comes of
+// finite ones is finite once it is clamped. The envelope seldom rises: the samples that let it fall have a loop of
 // their own, so that the next envelope does not wait for the test which way this one went.
 ghost use Rattle.std.specs.Prelude.{ℕ, ◌≡◌, true, map, ◌+◌, ◌<◌, ◌≤◌, length, get_or, Some};
 ghost use Rattle.std.specs.Float.{nan};
@@ -22,6 +22,7 @@ impl AudioAgc {
         ensures { (after : AudioAgc) → result ≡ Some after → gave after 0 (map clamp_one z.new) ≡ ran audio_stage mono self «data».now }
     {
         let mut at = self;
+        // Stays: one `for` over the samples is half as slow again, since each envelope then waits for a select.
         let mut k = 0;
         while k < data.len() {
             while falls(data, k, at.envelope) {
@@ -60,14 +61,7 @@ impl AudioAgc {
 fn falls(data: &[f32], k: usize, envelope: f32) -> bool
     ensures { result ≡ true → k < length «data».now }
 {
-    if k < data.len() {
-        let x = data[k];
-        if x != x {
-            return false;
-        }
-        return !(x.magnitude() > envelope);
-    }
-    false
+    k < data.len() && data[k] == data[k] && !(data[k].magnitude() > envelope)
 }
 
 // The outputs clamped to -1..1, four at a time, which the compiler works side by side.
