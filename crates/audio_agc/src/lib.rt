@@ -7,7 +7,7 @@
 // and the rule on the hang time, `specs/Process.antt` what a call gives, accepted or refused, `specs/Cases.antt`
 // worked values. proofs/ shows that cutting a stream into calls and dropping the struck samples change
 // nothing else, that a burst of bad samples leaves no trace, and that no call makes a state that a later one
-// refuses. A block is tried without a test at each sample (`trial.rt`; `specs/Moved.antt` is for that), and worked
+// refuses. A block is tried as if no sample were struck (`trial.rt`; `specs/Moved.antt` is for that), and worked
 // in the plain form where a sample of it is struck or lies in dead air. No public function here has a `requires`.
 #![tactic(auto)]
 

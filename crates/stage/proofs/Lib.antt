@@ -35,6 +35,8 @@ pub mod Written
 -- a list worked out place by place, and a slice filled with a list that is known beforehand
 pub mod Counted
 pub mod Filling
+-- a list known place by place
+pub mod Places
 -- the loop's invariant for samples, for interleaved pairs and for outputs in another slice: that it begins, that a turn keeps it, and what it says at the end
 pub mod LoopMono
 pub mod LoopInterleaved

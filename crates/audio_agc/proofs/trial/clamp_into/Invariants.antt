@@ -1,10 +1,10 @@
--- `audio_agc::trial::clamp_into` meets its contract. The loop's invariant: the first k places are written, and the rest is to come. Assumes nothing.
+-- `audio_agc::trial::clamp_into` meets its contract. The loop's invariant: the places before 4 x g are written. Assumes nothing.
+use Prim.Native.Nat.{ℕ, ◌*◌, ◌<◌}
 use mathlib.Core.Path.{◌≡◌}
-use mathlib.Core.List.{map}
-use lib.ListN.{length, drop}
-use Rattle.stage.proofs.Filling.{Filling}
+use lib.ListN.{length, get_or}
+use lib.Ieee.{nan}
 use Rattle.audio_agc.specs.Step.{clamp_one}
 use Rattle.audio_agc.proofs.trial.clamp_into.Given as goal
 
-abbrev pub invariant-loop-k : goal.invariant-loop-k
-invariant-loop-k l = (length l.data ≡ length l.fn.data) × Filling (map clamp_one l.fn.z) l.k (map clamp_one (drop l.k l.fn.z)) l.data
+abbrev pub invariant-loop-g : goal.invariant-loop-g
+invariant-loop-g l = (length l.«data» ≡ 32) × ((i : ℕ) → i < 4 * l.g → get_or l.«data» i nan ≡ clamp_one (get_or l.z i nan))

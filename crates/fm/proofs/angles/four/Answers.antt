@@ -1,17 +1,13 @@
 -- `fm::angles::four` meets its contract: behind the angles that stand there lie the four of its lanes. Assumes nothing.
-use mathlib.Core.Path.{◌≡◌, refl, ◌∙◌}
+use mathlib.Core.Path.{◌≡◌, refl}
 use mathlib.Core.List.{List}
-use Prim.Native.Nat.{ℕ, ◌+◌, ◌*◌, ◌-◌, ◌≤◌, ◌<◌}
-use native.Mathlib.Decide.{dec_lt}
+use Prim.Native.Nat.{ℕ, ◌+◌, ◌*◌, ◌-◌}
 use native.Mathlib.Omega.{arith}
-use lib.ListN.{length, take, get_or-append}
-use lib.Seq.{length-take-le}
 use lib.Ieee.{Float, nan}
-use Rattle.std.proofs.lemmas.List.{get_or-take, get_or-append_right}
-use borrow.Rule.Slice.PartMut.{put_mid}
 use Rattle.angle.specs.Single.{arctan32}
 use Rattle.angle.specs.Lanes.{lane, Holds, arctans32}
 use Rattle.angle.proofs.Holding.{four_holds}
+use Rattle.stage.proofs.Places.{places_more}
 use Rattle.fm.specs.Step.{angle_of}
 use Rattle.fm.specs.Angles.{angle_at}
 use Rattle.fm.proofs.angles.four.Goals as goal
@@ -25,17 +21,6 @@ lanes-angles input a q i k e of-q of-i l h =
     let first : 2 * k + 2 * l ≡ 2 * (k + l) = omega arith in
     rw (e, four_holds (λ l. arctan32 (lane q l) (lane i l)) l h, of-q l h, of-i l h, second, first)
 
--- n more places, written at once
-module _ (f : ℕ → Float) (out more : List Float) (k n : ℕ) (room : k + n ≤ length out) (long : length more ≡ n) (before : Holds f out k) (new : Holds (λ l. f (k + l)) more n) where
-  at : (l : ℕ) → l < k + n → Dec (l < k) → lane (put_mid k n out more) l ≡ f l
-  at l h (yes below) = get_or-append (take k out) _ nan l (rw (length-take-le k out (omega arith)) below) ∙ get_or-take k out l nan below ∙ before l below
-  at l h (no above) =
-      let back : k + (l - k) ≡ l = omega arith in
-      get_or-append_right (take k out) _ k l nan (length-take-le k out (omega arith)) (omega arith) ∙ get_or-append more _ nan (l - k) (omega arith) ∙ rw back at (new (l - k) (omega arith))
-
-  holds_mid : Holds f (put_mid k n out more) (k + n)
-  holds_mid l h = at l h (dec_lt l k)
-
 pub returns : goal.returns
 returns c =
     let q = c.every_second-q in
@@ -43,4 +28,4 @@ returns c =
     let a = c.args in
     let four : a.k + 4 - a.k ≡ 4 = omega arith in
     let is = lanes-angles a.input.now c.arctangents_f32-a.result q.result i.result a.k c.arctangents_f32-a.ensures q.ensures i.ensures in
-    rw four (holds_mid (angle_at a.input.now) a.output.now c.copy_from_slice.new.self a.k 4 (omega arith) (rw (c.copy_from_slice.ensures.after, c.arctangents_f32-a.ensures) refl) c.requires.2 (rw c.copy_from_slice.ensures.after is))
+    rw four (places_more nan (angle_at a.input.now) a.output.now c.copy_from_slice.new.self a.k 4 (omega arith) (rw (c.copy_from_slice.ensures.after, c.arctangents_f32-a.ensures) refl) c.requires.2 (rw c.copy_from_slice.ensures.after is))
