@@ -13,11 +13,15 @@ mod step;
 
 ghost use Rattle.std.specs.Prelude.{◌≡◌, true};
 ghost use Rattle.stage.specs.Refusal.{refusal_no};
+ghost use Rattle.stage.specs.Numbers.{number_of};
 ghost use Rattle.agc.specs.State.{setting_met, state_met, made, answered};
+
+use number::kinds::Real;
+use stage::Refusal;
 
 // The gain, the level that it brings a pair to, and how fast it falls and rises.
 #[repr(C)]
-#[derive(Clone, Copy)]
+#[derive(Clone, Copy, Default)]
 pub struct Agc {
     pub gain: f32,
     pub target: f32,
@@ -27,6 +31,7 @@ pub struct Agc {
 
 // What every call answers: the number of the refusal, 0 for none; the state for the next call, which is
 // the one handed in where this one is refused; and how many pairs were struck.
+// Stays: C reads this record (`tl_agc_process`), so it has no type parameter for the state, and `refusal` is a number.
 #[repr(C)]
 #[derive(Clone, Copy)]
 pub struct AgcDone {
@@ -48,15 +53,10 @@ impl Agc {
             decay,
         };
         if fresh.setting() {
-            return fresh.answer(stage::NONE, 0);
+            fresh.answer(stage::NONE, 0)
+        } else {
+            Agc::default().answer(u32::from(Refusal::Setting), 0)
         }
-        let zeros = Agc {
-            gain: 0.0,
-            target: 0.0,
-            attack: 0.0,
-            decay: 0.0,
-        };
-        zeros.answer(stage::SETTING, 0)
     }
 
     // Whether each setting keeps its rule.
@@ -66,12 +66,12 @@ impl Agc {
         stage::positive(self.target) & stage::in_unit(self.attack) & stage::in_unit(self.decay)
     }
 
-    // The number for this state and for what is lent, of which the flags speak.
-    fn number(self, within: bool, even: bool) -> u32
-        ensures { result ≡ refusal_no (setting_met self) (state_met self) within even true }
+    // The demands on this state and on what is lent, of which the flags speak.
+    fn demands(self, within: bool, even: bool) -> Result<(), Refusal>
+        ensures { number_of result ≡ refusal_no (setting_met self) (state_met self) within even true }
     {
-        let state = number::kinds::finite_f32(self.gain);
-        stage::refusal(self.setting(), state, within, even, true)
+        let state = self.gain.finite();
+        stage::demands(self.setting(), state, within, even, true)
     }
 
     // This state in an answer.

@@ -1,28 +1,23 @@
 // One step of the gain control: the gain after a pair, and the pair times that gain.
 ghost use Rattle.std.specs.Prelude.{◌≡◌};
 ghost use Rattle.agc.specs.Gain.{magnitude_of, error_of, weight_of, gain_after};
-ghost use Rattle.agc.specs.Step.{agc_step};
+ghost use Rattle.agc.specs.Step.{agc_answer};
 
 use crate::Agc;
-
-// Struck, or both outputs and the new gain.
-#[derive(Clone, Copy)]
-pub enum AgcStep {
-    Struck,
-    Kept(f32, f32, f32),
-}
+use number::kinds::Real;
+use stage::Feedback;
 
 // The step of `process`: I and Q are one pair.
-pub fn agc_step(s: Agc, i: f32, q: f32) -> AgcStep
-    ensures { result ≡ agc_step s i q }
-{
-    let gain = gain_after(s, magnitude(i, q));
-    let out_i = i * gain;
-    let out_q = q * gain;
-    if stage::both_finite(out_i, out_q) & number::kinds::finite_f32(gain) {
-        AgcStep::Kept(out_i, out_q, gain)
-    } else {
-        AgcStep::Struck
+#[tactic(auto, unfolding(crate::specs::Step::agc_answer))]
+impl Feedback<(f32, f32), (f32, f32)> for Agc {
+    ghost answer = { agc_answer };
+
+    fn step(self, (i, q): (f32, f32)) -> Option<((f32, f32), Agc)> {
+        let gain = gain_after(self, magnitude(i, q));
+        let out_i = i * gain;
+        let out_q = q * gain;
+        let kept = stage::both_finite(out_i, out_q) & gain.finite();
+        kept.then_some(((out_i, out_q), Agc { gain, ..self }))
     }
 }
 
@@ -33,6 +28,7 @@ fn magnitude(i: f32, q: f32) -> f32
 }
 
 // The gain after a pair of this magnitude.
+#[tactic(auto, unfolding(crate::specs::Gain::gain_after))]
 fn gain_after(s: Agc, mag: f32) -> f32
     ensures { result ≡ gain_after s mag }
 {

@@ -1,14 +1,14 @@
 // The angle of a slope: the smaller of two magnitudes divided by the greater, and the angle whose tangent that is.
 //
 // The parts 1/3, 1/5, .. 1/31 are written as the quotients that a rounded division gives; the proof of
-// `arc_series` computes each division anew. Where one of two values is taken both are worked out, and a function
-// of its own takes one: so there is no branch, and several slopes can be worked side by side.
-ghost use Rattle.std.specs.Prelude.{◌≡◌, false, cond};
-ghost use Rattle.std.specs.Float.{inf};
-ghost use Rattle.std.specs.Float.Ieee.{lt, eq};
-ghost use Rattle.angle.specs.Numbers.{one, nought, bound};
+// `arc_series` computes each division anew. Where one of two values is taken both are worked out, and `pick`
+// takes one: so there is no branch, and several slopes can be worked side by side.
+ghost use Rattle.std.specs.Prelude.{◌≡◌};
 ghost use Rattle.angle.specs.Arc.{odds, odd_numbers, base, inner, flat, quotient, smaller, greater};
 ghost use Rattle.angle.specs.Parts.{ratio};
+
+use crate::pick;
+use number::kinds::Real;
 
 const QUARTER: f64 = 0.7853981633974483;
 
@@ -18,49 +18,39 @@ const BOUND: f64 = 0.41421356237309503;
 pub(crate) fn ratio_of(y: f64, x: f64) -> f64
     ensures { result ≡ ratio y x }
 {
-    let b = number::kinds::magnitude_f64(y);
-    let c = number::kinds::magnitude_f64(x);
+    let b = y.magnitude();
+    let c = x.magnitude();
     divided(smaller_of(b, c), greater_of(b, c))
 }
 
+// The quotient, but 0 where both are zero and 1 where both are infinite.
+#[tactic(auto, using(number::proofs::Nan::infinity_f64), unfolding(crate::specs::Arc::quotient))]
 fn divided(small: f64, great: f64) -> f64
     ensures { result ≡ quotient small great }
 {
-    of_sizes(small, great, small / great)
+    pick(
+        great == 0.0,
+        0.0,
+        pick(small == f64::INFINITY, 1.0, small / great),
+    )
 }
 
-// The quotient q, but 0 where both are zero and 1 where both are infinite.
-fn of_sizes(small: f64, great: f64, q: f64) -> f64
-    ensures { result ≡ cond (eq great nought) nought (cond (eq small (inf false)) one q) }
-{
-    if great == 0.0 {
-        return 0.0;
-    }
-    if small == 1.0 / 0.0 {
-        return 1.0;
-    }
-    q
-}
-
+#[tactic(auto, unfolding(crate::specs::Arc::smaller))]
 fn smaller_of(y: f64, x: f64) -> f64
     ensures { result ≡ smaller y x }
 {
-    if y > x {
-        return x;
-    }
-    y
+    pick(y > x, x, y)
 }
 
+#[tactic(auto, unfolding(crate::specs::Arc::greater))]
 fn greater_of(y: f64, x: f64) -> f64
     ensures { result ≡ greater y x }
 {
-    if y > x {
-        return y;
-    }
-    x
+    pick(y > x, y, x)
 }
 
 // The angle whose tangent is q, from 0 to 1.
+#[tactic(auto, unfolding(crate::specs::Arc::flat))]
 pub(crate) fn flat_angle(q: f64) -> f64
     ensures { result ≡ flat q }
 {
@@ -68,29 +58,18 @@ pub(crate) fn flat_angle(q: f64) -> f64
     base_of(q) + u * arc_series(u * u)
 }
 
+#[tactic(auto, unfolding(crate::specs::Arc::base))]
 fn base_of(q: f64) -> f64
     ensures { result ≡ base q }
 {
-    if q > BOUND {
-        return QUARTER;
-    }
-    0.0
+    pick(q > BOUND, QUARTER, 0.0)
 }
 
+#[tactic(auto, unfolding(crate::specs::Arc::inner))]
 fn inner_of(q: f64) -> f64
     ensures { result ≡ inner q }
 {
-    above_bound(q, (q - 1.0) / (q + 1.0))
-}
-
-// u where q is above the bound, else q.
-fn above_bound(q: f64, u: f64) -> f64
-    ensures { result ≡ cond (lt bound q) u q }
-{
-    if q > BOUND {
-        return u;
-    }
-    q
+    pick(q > BOUND, (q - 1.0) / (q + 1.0), q)
 }
 
 fn arc_series(w: f64) -> f64

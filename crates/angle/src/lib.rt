@@ -7,9 +7,18 @@
 // `lanes` works out four arctangents side by side. No public function here has a `requires`.
 #![tactic(auto)]
 
+ghost use Rattle.std.specs.Prelude.{◌≡◌, cond};
+
 pub mod arc;
 mod flat;
 pub mod lanes;
 mod rest;
 pub mod single;
 pub mod turn;
+
+// `then` where the test holds, else `other`. Both are worked out before the call, so that there is no branch.
+fn pick(test: bool, then: f64, other: f64) -> f64
+    ensures { result ≡ cond test then other }
+{
+    if test { then } else { other }
+}

@@ -5,6 +5,8 @@ ghost use Rattle.std.specs.Float.{binary64};
 ghost use Rattle.std.specs.Float.Ieee.{rem};
 ghost use Rattle.angle.specs.Numbers.{TAU};
 
+use number::kinds::Real;
+
 // TAU is so many parts of 2^-50.
 const TURN: u64 = 7074237752028440;
 
@@ -16,8 +18,8 @@ const FOUR: u64 = 1025;
 pub(crate) fn rest(x: f64) -> f64
     ensures { result ≡ rem binary64 x TAU }
 {
-    if !number::kinds::finite_f64(x) {
-        return 0.0 / 0.0;
+    if !x.finite() {
+        return f64::NAN;
     }
     let b = f64::to_bits(x);
     let g = b % 0x8000_0000_0000_0000 / 0x10_0000_0000_0000;

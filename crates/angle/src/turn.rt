@@ -8,6 +8,7 @@ pub const PI: f64 = 3.141592653589793;
 pub const TAU: f64 = 6.283185307179586;
 
 // The sine of x; NaN where x is not finite.
+#[tactic(auto, unfolding(crate::specs::Turn::sined, crate::specs::Turn::sine_of))]
 pub fn sine(x: f64) -> f64
     ensures { result ≡ sined x }
 {
@@ -16,6 +17,7 @@ pub fn sine(x: f64) -> f64
 }
 
 // The cosine of x; NaN where x is not finite.
+#[tactic(auto, unfolding(crate::specs::Turn::cosined, crate::specs::Turn::cosine_of))]
 pub fn cosine(x: f64) -> f64
     ensures { result ≡ cosined x }
 {
@@ -24,6 +26,7 @@ pub fn cosine(x: f64) -> f64
 }
 
 // x less whole turns, from -PI to PI; NaN where x is not finite. The remainder is exact.
+#[tactic(auto, unfolding(crate::specs::Turn::reduced))]
 pub fn reduce(x: f64) -> f64
     ensures { result ≡ reduced x }
 {
@@ -31,6 +34,7 @@ pub fn reduce(x: f64) -> f64
 }
 
 // One turn taken off above PI, or put on below -PI; never at PI or -PI itself.
+#[tactic(auto, unfolding(crate::specs::Turn::pulled))]
 pub fn pull(r: f64) -> f64
     ensures { result ≡ pulled r }
 {

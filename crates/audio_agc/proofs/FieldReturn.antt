@@ -9,14 +9,15 @@ use Rattle.stage.specs.Burst.{NoneFinite, EachStruck}
 use Rattle.stage.proofs.Burst.{mono_burst, before_accepted}
 use Rattle.stage.proofs.Stays.{call_keeps}
 use Rattle.audio_agc.specs.declared.AudioAgc.{AudioAgc}
-use Rattle.audio_agc.specs.Process.{audio_answer, audio_stage, process}
+use Rattle.audio_agc.specs.Step.{audio_step}
+use Rattle.audio_agc.specs.Process.{audio_stage, process}
 use Rattle.audio_agc.specs.NoTrace.{NoTrace}
 use Rattle.audio_agc.proofs.Sound.{audio_keeps}
 use Rattle.audio_agc.proofs.Struck.{none_finite_struck}
 
 -- any samples that the stage strikes where they come, also finite ones that are too large for it
 pub struck_leave_no_trace : (s : AudioAgc) (before burst after : List Float) → (process s (before ++ (burst ++ after))).refusal ≡ NONE
-    → EachStruck audio_answer (process s before).state burst → NoTrace s before burst after
+    → EachStruck audio_step (process s before).state burst → NoTrace s before burst after
 struck_leave_no_trace s before burst after e k = mono_burst audio_stage audio_keeps s before burst after k e
 
 -- so NaNs and infinities, as many as there are

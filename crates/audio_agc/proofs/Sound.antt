@@ -2,7 +2,7 @@
 -- within its time. A fresh state is sound. Assumes nothing.
 use Prim.Native.Nat.{ℕ, ◌≤◌}
 use native.Mathlib.Omega.{arith}
-use mathlib.Core.Path.{◌≡◌, refl, sym, ap, ◌∙◌}
+use mathlib.Core.Path.{◌≡◌, refl, sym, ◌∙◌}
 use mathlib.Core.Bool.{true, ◌&&◌, and-eq-true_iff}
 use lib.Dec.{leb, ltb}
 use lib.Ieee.{Float, binary32, of_bits, lt, to_unsigned}
@@ -16,11 +16,10 @@ use Rattle.stage.specs.Stage.{Sound}
 use Rattle.stage.proofs.Stays.{Keeps, kept_by_test, made_by_test}
 use Rattle.audio_agc.specs.declared.AudioAgc.{AudioAgc}
 use Rattle.audio_agc.specs.declared.AudioAgcDone.{AudioAgcDone}
-use Rattle.audio_agc.specs.declared.step.AudioStep.TheVariants as audio-step
 use Rattle.audio_agc.specs.State.{levels_met, LONGEST_HANG, answered}
 use Rattle.audio_agc.specs.Made.{hang_of, hang_met, fresh, zeros, made}
-use Rattle.audio_agc.specs.Step.{keep_step}
-use Rattle.audio_agc.specs.Process.{audio_means, audio_stage}
+use Rattle.audio_agc.specs.Step.{moved, keep_step}
+use Rattle.audio_agc.specs.Process.{audio_stage}
 use Rattle.audio_agc.proofs.Ways.{step_way}
 use Rattle.audio_agc.proofs.Hang.{hang_cut}
 
@@ -37,10 +36,10 @@ module _ (s : AudioAgc) (h : Sound audio_stage s) where
 
 -- what the test lets through is sound
 keep_sound : (s : AudioAgc) (out gain envelope : Float) (hang : ℕ) (o : Float) (t : AudioAgc) → Sound audio_stage s → hang ≤ s.hang_time_samples
-    → audio_means s (keep_step out gain envelope hang) ≡ kept o t → Sound audio_stage t
+    → keep_step out (moved s gain envelope hang) ≡ kept o t → Sound audio_stage t
 unfolding keep_step
 keep_sound s out gain envelope hang o t h w e =
-    kept_by_test (Sound audio_stage) (audio_means s) (both_finite out gain && finite envelope) (audio-step.Kept out gain envelope hang) audio-step.Struck out _ refl refl
+    kept_by_test (Sound audio_stage) (both_finite out gain && finite envelope) out (moved s gain envelope hang)
     (λ f.
     let parts = (and-eq-true_iff (both_finite out gain) (finite envelope)).0 f in
     let level = ((and-eq-true_iff (finite out) (finite gain)).0 parts.0).1 in
@@ -53,7 +52,7 @@ keep_sound s out gain envelope hang o t h w e =
 pub audio_keeps : Keeps audio_stage
 audio_keeps s x o t h e =
     let w = step_way s x (hang_within s h) in
-    keep_sound s w.out w.gain _ w.hang o t h w.within (ap (audio_means s) (sym w.is) ∙ e)
+    keep_sound s w.out w.gain _ w.hang o t h w.within (sym w.is ∙ e)
 
 fresh_sound : (target attack decay time rate floor : Float) → (levels_met target attack decay floor && hang_met time rate) ≡ true
     → Sound audio_stage (fresh target attack decay (hang_of time rate) floor)

@@ -2,7 +2,7 @@
 -- envelope before it were finite. Assumes nothing.
 use Prim.Native.Nat.{ℕ, ◌*◌, ◌<◌}
 use native.Mathlib.Omega.{arith}
-use mathlib.Core.Path.{◌≡◌, refl, sym, ◌∙◌}
+use mathlib.Core.Path.{◌≡◌, refl, sym, ap, ◌∙◌}
 use mathlib.Core.Bool.{Bool, true, false, cond, true≢false, and-false}
 use lib.Ieee.{Float, nan, inf, fin, binary32, sub, mul, neg, lt, below, up, down, of_bits}
 use lib.Ieee.Scale.{finite}
@@ -15,7 +15,6 @@ use Rattle.audio_agc.specs.declared.AudioAgc.{AudioAgc}
 use Rattle.audio_agc.specs.Level.{at_most, clamp_of, envelope_after}
 use Rattle.audio_agc.specs.Step.{clamp_one, keep_step, loud_step, audio_step}
 use Rattle.audio_agc.specs.Moved.{Moves}
-use Rattle.audio_agc.specs.Process.{audio_answer}
 
 -- ---- one float below another
 
@@ -85,23 +84,12 @@ clamp_finite x h =
     cond_finite (lt x (neg one)) (at_most one (neg one)) (at_most one x) (cond_finite (lt one (neg one)) one (neg one) refl refl) (cond_finite (lt one x) one x refl h)
 
 -- ---- the step
-pub live_kept : (s : AudioAgc) (x gain : Float) (hang : ℕ) → Moves s (envelope_after s.envelope (absolute x)) gain hang
+pub live_kept : (s : AudioAgc) (x : Float) (after : AudioAgc) → Moves s (envelope_after s.envelope (absolute x)) after
     → lt s.min_magnitude s.envelope ≡ true → lt s.min_magnitude (envelope_after s.envelope (absolute x)) ≡ true
-    → finite (mul binary32 x gain) ≡ true → (finite gain ≡ true) × (finite (envelope_after s.envelope (absolute x)) ≡ true)
-    → (audio_answer s x
-    ≡ kept (clamp_one (mul binary32 x gain))
-    (record {
-      gain = gain;
-      target = s.target;
-      attack = s.attack;
-      decay = s.decay;
-      min_magnitude = s.min_magnitude;
-      hang_time_samples = s.hang_time_samples;
-      hang_counter = hang;
-      envelope = envelope_after s.envelope (absolute x);
-    }))
-    × ((finite s.gain ≡ true) × (finite s.envelope ≡ true))
+    → finite (mul binary32 x after.gain) ≡ true → (finite after.gain ≡ true) × (finite after.envelope ≡ true)
+    → (audio_step s x ≡ kept (clamp_one (mul binary32 x after.gain)) after) × ((finite s.gain ≡ true) × (finite s.envelope ≡ true))
 unfolding audio_step loud_step keep_step
-live_kept s x gain hang m low live out fine =
+live_kept s x after m low live out fine =
     let e = envelope_after s.envelope (absolute x) in
-    (rw (lt_asym s.min_magnitude e live, m.lives x, clamp_finite (mul binary32 x gain) out, fine.0, fine.1), (m.was fine.0, envelope_was s.min_magnitude s.envelope (absolute x) low fine.1))
+    let is : after.envelope ≡ e = ap (λ (t : AudioAgc). t.envelope) m.stays in
+    (rw (lt_asym s.min_magnitude e live, m.lives x, clamp_finite (mul binary32 x after.gain) out, fine.0, fine.1), (m.was fine.0, envelope_was s.min_magnitude s.envelope (absolute x) low (rw is at fine.1)))

@@ -7,24 +7,24 @@ use lib.Dec.{ltb}
 use lib.Ieee.{Float, binary32, mul, neg, lt}
 use Rattle.number.specs.Kinds.{absolute}
 use Rattle.stage.specs.Floats.{one, blend_of}
+use Rattle.stage.specs.Run.{Answer}
 use Rattle.audio_agc.specs.declared.AudioAgc.{AudioAgc}
-use Rattle.audio_agc.specs.declared.step.AudioStep.{AudioStep}
 use Rattle.audio_agc.specs.Level.{clamp_of, envelope_after, dead_gain, slow_decay}
-use Rattle.audio_agc.specs.Step.{keep_step, dead_step, loud_step, error_of, live_step, audio_step}
+use Rattle.audio_agc.specs.Step.{moved, keep_step, dead_step, loud_step, error_of, live_step, audio_step}
 
-pub record Way (s : AudioAgc) (envelope : Float) (a : AudioStep) : Type 0 where
+pub record Way (s : AudioAgc) (envelope : Float) (a : Answer Float AudioAgc) : Type 0 where
   pub out : Float
   pub gain : Float
   pub hang : ℕ
   pub within : hang ≤ s.hang_time_samples
-  pub is : a ≡ keep_step out gain envelope hang
+  pub is : a ≡ keep_step out (moved s gain envelope hang)
 
 module _ (s : AudioAgc) (envelope x : Float) (h : s.hang_counter ≤ s.hang_time_samples) where
   dead_way : Way s envelope (dead_step s envelope x)
   unfolding dead_step
   dead_way = record { out = mul binary32 x (dead_gain s.gain); gain = dead_gain s.gain; hang = s.hang_counter - 1; within = omega arith; is = refl }
 
-  loud_way : (gain : Float) (hang : ℕ) → hang ≤ s.hang_time_samples → Way s envelope (loud_step x gain envelope hang)
+  loud_way : (gain : Float) (hang : ℕ) → hang ≤ s.hang_time_samples → Way s envelope (loud_step x (moved s gain envelope hang))
   unfolding loud_step
   loud_way gain hang w = record { out = clamp_of (neg one) one (mul binary32 x gain); gain = gain; hang = hang; within = w; is = refl }
 
@@ -41,7 +41,8 @@ module _ (s : AudioAgc) (envelope x : Float) (h : s.hang_counter ≤ s.hang_time
 
       go : (falls hangs : Bool)
           → Way s envelope
-          (cond falls (loud_step x attack envelope s.hang_time_samples) (cond hangs (loud_step x s.gain envelope (s.hang_counter - 1)) (loud_step x decay envelope 0)))
+          (cond falls (loud_step x (moved s attack envelope s.hang_time_samples))
+          (cond hangs (loud_step x (moved s s.gain envelope (s.hang_counter - 1))) (loud_step x (moved s decay envelope 0))))
       go true hangs = loud_way attack s.hang_time_samples (omega arith)
       go false true = loud_way s.gain (s.hang_counter - 1) (omega arith)
       go false false = loud_way decay 0 (omega arith)

@@ -2,7 +2,10 @@
 ghost use Rattle.std.specs.Prelude.{◌≡◌};
 ghost use Rattle.audio_agc.specs.Level.{at_most, clamp_of, envelope_after, dead_gain, slow_decay};
 
+use number::kinds::Real;
+
 // The envelope after a sample of this magnitude: up at once, and down slowly.
+#[tactic(auto, unfolding(crate::specs::Level::envelope_after))]
 pub fn envelope_after(envelope: f32, mag: f32) -> f32
     ensures { result ≡ envelope_after envelope mag }
 {
@@ -14,10 +17,11 @@ pub fn envelope_after(envelope: f32, mag: f32) -> f32
 }
 
 // The gain in dead air: slowly back to 1.
+#[tactic(auto, unfolding(crate::specs::Level::dead_gain))]
 pub fn dead_gain(gain: f32) -> f32
     ensures { result ≡ dead_gain gain }
 {
-    if number::kinds::magnitude_f32(gain - 1.0) > 1e-6 {
+    if (gain - 1.0).magnitude() > 1e-6 {
         0.9999 * gain + 0.0001 * 1.0
     } else {
         gain
@@ -25,6 +29,7 @@ pub fn dead_gain(gain: f32) -> f32
 }
 
 // The decay, slowed to a tenth near the noise floor.
+#[tactic(auto, unfolding(crate::specs::Level::slow_decay))]
 pub fn slow_decay(decay: f32, floor: f32, envelope: f32) -> f32
     ensures { result ≡ slow_decay decay floor envelope }
 {
@@ -33,6 +38,7 @@ pub fn slow_decay(decay: f32, floor: f32, envelope: f32) -> f32
 }
 
 // x within low and high, as the Rust's `clamp`: NaN passes.
+#[tactic(auto, unfolding(crate::specs::Level::clamp_of))]
 pub fn clamp(low: f32, high: f32, x: f32) -> f32
     ensures { result ≡ clamp_of low high x }
 {

@@ -19,13 +19,16 @@ mod trial;
 
 ghost use Rattle.std.specs.Prelude.{◌≡◌, true};
 ghost use Rattle.stage.specs.Refusal.{refusal_no};
-ghost use Rattle.audio_agc.specs.State.{setting_met, state_met, answered};
+ghost use Rattle.stage.specs.Numbers.{number_of};
+ghost use Rattle.audio_agc.specs.State.{levels_met, setting_met, state_met, answered};
+
+use stage::Refusal;
 
 // The gain, the level that it brings a sample to, how fast it falls and rises, the floor below which a
 // signal is dead air, how many samples the gain hangs after it fell and how many of them are left, and the
 // signal's envelope.
 #[repr(C)]
-#[derive(Clone, Copy)]
+#[derive(Clone, Copy, Default)]
 pub struct AudioAgc {
     pub gain: f32,
     pub target: f32,
@@ -39,6 +42,7 @@ pub struct AudioAgc {
 
 // What every call answers: the number of the refusal, 0 for none; the state for the next call, which is
 // the one handed in where this one is refused; and how many samples were struck.
+// Stays: C passes this record, so it keeps the refusal's number and takes no type parameter.
 #[repr(C)]
 #[derive(Clone, Copy)]
 pub struct AudioAgcDone {
@@ -48,12 +52,19 @@ pub struct AudioAgcDone {
 }
 
 impl AudioAgc {
+    // Whether target and floor are finite and above 0, and attack and decay lie from 0 to 1.
+    fn levels(self) -> bool
+        ensures { result ≡ levels_met self.target self.attack self.decay self.min_magnitude }
+    {
+        let parts = stage::in_unit(self.attack) & stage::in_unit(self.decay);
+        stage::positive(self.target) & stage::positive(self.min_magnitude) & parts
+    }
+
     // Whether each setting keeps its rule.
     fn setting(self) -> bool
         ensures { result ≡ setting_met self }
     {
-        let levels = made::levels(self.target, self.attack, self.decay, self.min_magnitude);
-        levels & (self.hang_time_samples < 16_777_216)
+        self.levels() & (self.hang_time_samples < 16_777_216)
     }
 
     // Whether what is stored may have come from a call: finite, and no hang longer than the hang time.
@@ -63,11 +74,11 @@ impl AudioAgc {
         stage::both_finite(self.gain, self.envelope) & (self.hang_counter <= self.hang_time_samples)
     }
 
-    // The number for this state and for a slice that is within the limit where the flag says so.
-    fn number(self, within: bool) -> u32
-        ensures { result ≡ refusal_no (setting_met self) (state_met self) within true true }
+    // The demands on this state, and on a slice that is within the limit where the flag says so.
+    fn demands(self, within: bool) -> Result<(), Refusal>
+        ensures { number_of result ≡ refusal_no (setting_met self) (state_met self) within true true }
     {
-        stage::refusal(self.setting(), self.state(), within, true, true)
+        stage::demands(self.setting(), self.state(), within, true, true)
     }
 
     // This state in an answer.

@@ -1,9 +1,9 @@
 // A fresh audio gain control, and the rules on its settings.
 ghost use Rattle.std.specs.Prelude.{◌≡◌};
-ghost use Rattle.audio_agc.specs.State.{levels_met};
 ghost use Rattle.audio_agc.specs.Made.{hang_of, hang_met, made};
 
 use crate::{AudioAgc, AudioAgcDone};
+use stage::Refusal;
 
 impl AudioAgc {
     // A fresh state, with a gain of 1 and an envelope of 0, that hangs for hang_time_ms at this sample rate.
@@ -20,40 +20,22 @@ impl AudioAgc {
     ) -> AudioAgcDone
         ensures { result ≡ made target attack decay hang_time_ms sample_rate min_magnitude }
     {
-        let hang = hang_time(hang_time_ms, sample_rate);
-        if levels(target, attack, decay, min_magnitude) & hang_allowed(hang_time_ms, sample_rate) {
-            let fresh = AudioAgc {
-                gain: 1.0,
-                target,
-                attack,
-                decay,
-                min_magnitude,
-                hang_time_samples: number::whole::whole(hang),
-                hang_counter: 0,
-                envelope: 0.0,
-            };
-            return fresh.answer(stage::NONE, 0);
-        }
-        let zeros = AudioAgc {
-            gain: 0.0,
-            target: 0.0,
-            attack: 0.0,
-            decay: 0.0,
-            min_magnitude: 0.0,
-            hang_time_samples: 0,
+        let fresh = AudioAgc {
+            gain: 1.0,
+            target,
+            attack,
+            decay,
+            min_magnitude,
+            hang_time_samples: number::whole::whole(hang_time(hang_time_ms, sample_rate)),
             hang_counter: 0,
             envelope: 0.0,
         };
-        zeros.answer(stage::SETTING, 0)
+        if fresh.levels() & hang_allowed(hang_time_ms, sample_rate) {
+            fresh.answer(stage::NONE, 0)
+        } else {
+            AudioAgc::default().answer(u32::from(Refusal::Setting), 0)
+        }
     }
-}
-
-// Whether target and floor are finite and above 0, and attack and decay lie from 0 to 1.
-pub fn levels(target: f32, attack: f32, decay: f32, floor: f32) -> bool
-    ensures { result ≡ levels_met target attack decay floor }
-{
-    let parts = stage::in_unit(attack) & stage::in_unit(decay);
-    stage::positive(target) & stage::positive(floor) & parts
 }
 
 // The hang time in samples, before it is cut to a whole number.

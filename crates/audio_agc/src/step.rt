@@ -1,96 +1,88 @@
 // One step of the audio gain control: dead air, attack, hang or decay, and who is struck.
-ghost use Rattle.std.specs.Prelude.{◌≡◌, ◌-◌};
-ghost use Rattle.audio_agc.specs.Step.{keep_step, loud_step, dead_step, live_step, audio_step};
+ghost use Rattle.std.specs.Prelude.{◌≡◌};
+ghost use Rattle.stage.specs.Run.{answer_of};
+ghost use Rattle.audio_agc.specs.Step.{keep_step, dead_step, live_step, audio_step};
 ghost use Rattle.audio_agc.specs.Moved.{Moves};
 
 use crate::{AudioAgc, level};
-
-// Struck, or the output and the new gain, envelope and hang counter.
-#[derive(Clone, Copy)]
-pub enum AudioStep {
-    Struck,
-    Kept(f32, f32, f32, usize),
-}
-
-// What a signal moves.
-#[derive(Clone, Copy)]
-pub struct Moved {
-    pub gain: f32,
-    pub hang: usize,
-}
+use number::kinds::Real;
+use stage::Feedback;
 
 // The step of `process`. An envelope below the floor is dead air.
-pub fn audio_step(s: AudioAgc, x: f32) -> AudioStep
-    ensures { result ≡ audio_step s x }
-{
-    let envelope = level::envelope_after(s.envelope, number::kinds::magnitude_f32(x));
-    if envelope < s.min_magnitude {
-        dead(s, envelope, x)
-    } else {
-        live(s, envelope, x)
+#[tactic(auto, unfolding(crate::specs::Step::audio_step))]
+impl Feedback<f32, f32> for AudioAgc {
+    ghost answer = { audio_step };
+
+    fn step(self, x: f32) -> Option<(f32, AudioAgc)> {
+        let envelope = level::envelope_after(self.envelope, x.magnitude());
+        if envelope < self.min_magnitude {
+            dead(self, envelope, x)
+        } else {
+            live(self, envelope, x)
+        }
     }
 }
 
 // Dead air: the output is not clamped.
-fn dead(s: AudioAgc, envelope: f32, x: f32) -> AudioStep
-    ensures { result ≡ dead_step s envelope x }
+#[tactic(auto, unfolding(crate::specs::Step::dead_step))]
+fn dead(s: AudioAgc, envelope: f32, x: f32) -> Option<(f32, AudioAgc)>
+    ensures { answer_of result ≡ dead_step s envelope x }
 {
     let gain = level::dead_gain(s.gain);
-    keep(x * gain, gain, envelope, one_less(s.hang_counter))
+    let after = AudioAgc {
+        gain,
+        hang_counter: s.hang_counter.saturating_sub(1),
+        envelope,
+        ..s
+    };
+    keep(x * gain, after)
 }
 
-// A signal.
-fn live(s: AudioAgc, envelope: f32, x: f32) -> AudioStep
-    ensures { result ≡ live_step s envelope x }
+// A signal: the output is clamped to -1..1.
+fn live(s: AudioAgc, envelope: f32, x: f32) -> Option<(f32, AudioAgc)>
+    ensures { answer_of result ≡ live_step s envelope x }
 {
-    let next = follow(s, envelope);
-    loud(x, next.gain, envelope, next.hang)
+    let after = follow(s, envelope);
+    keep(level::clamp(-1.0, 1.0, x * after.gain), after)
 }
 
-// The gain and the hang counter after a signal of this envelope: the gain falls at once, hangs, then rises.
-pub fn follow(s: AudioAgc, envelope: f32) -> Moved
-    ensures { Moves s envelope result.gain result.hang }
+// The state after a signal of this envelope: the gain falls at once, hangs, then rises.
+pub fn follow(s: AudioAgc, envelope: f32) -> AudioAgc
+    ensures { Moves s envelope result }
 {
     let error = s.target / (envelope + 1e-6);
     if error < s.gain {
-        return Moved {
+        return AudioAgc {
             gain: stage::blend(s.attack, s.gain, error),
-            hang: s.hang_time_samples,
+            hang_counter: s.hang_time_samples,
+            envelope,
+            ..s
         };
     }
     if 0 < s.hang_counter {
-        return Moved {
-            gain: s.gain,
-            hang: s.hang_counter - 1,
+        return AudioAgc {
+            hang_counter: s.hang_counter - 1,
+            envelope,
+            ..s
         };
     }
     let part = level::slow_decay(s.decay, s.min_magnitude, envelope);
-    Moved {
+    AudioAgc {
         gain: stage::blend(part, s.gain, error),
-        hang: 0,
+        hang_counter: 0,
+        envelope,
+        ..s
     }
-}
-
-// The output clamped to -1..1.
-fn loud(x: f32, gain: f32, envelope: f32, hang: usize) -> AudioStep
-    ensures { result ≡ loud_step x gain envelope hang }
-{
-    keep(level::clamp(-1.0, 1.0, x * gain), gain, envelope, hang)
 }
 
 // Struck, unless each float that is put out or stored is finite.
-fn keep(out: f32, gain: f32, envelope: f32, hang: usize) -> AudioStep
-    ensures { result ≡ keep_step out gain envelope hang }
+#[tactic(auto, unfolding(crate::specs::Step::keep_step))]
+fn keep(out: f32, after: AudioAgc) -> Option<(f32, AudioAgc)>
+    ensures { answer_of result ≡ keep_step out after }
 {
-    if stage::both_finite(out, gain) & number::kinds::finite_f32(envelope) {
-        AudioStep::Kept(out, gain, envelope, hang)
+    if stage::both_finite(out, after.gain) & after.envelope.finite() {
+        Some((out, after))
     } else {
-        AudioStep::Struck
+        None
     }
-}
-
-fn one_less(n: usize) -> usize
-    ensures { result ≡ n - 1 }
-{
-    if 0 < n { n - 1 } else { 0 }
 }

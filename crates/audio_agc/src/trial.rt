@@ -2,7 +2,7 @@
 // waits for. An envelope or a gain that is not finite stays so, so the last ones tell of all before them. The envelope
 // seldom rises: the samples that let it fall have a loop of their own, so that the next envelope does not wait for the
 // test which way this one went.
-ghost use Rattle.std.specs.Prelude.{◌≡◌, true, map, ◌<◌, length};
+ghost use Rattle.std.specs.Prelude.{◌≡◌, true, map, ◌<◌, length, Some};
 ghost use Rattle.std.specs.Float.Ieee.{lt};
 ghost use Rattle.stage.specs.Lent.{mono};
 ghost use Rattle.stage.specs.Call.{gave, ran};
@@ -11,61 +11,45 @@ ghost use Rattle.audio_agc.specs.Moved.{Turned};
 ghost use Rattle.audio_agc.specs.Process.{audio_stage};
 
 use crate::{AudioAgc, level, step};
-
-// The state after a block, right where each sample of it was kept and none lay in dead air. On the way there `kept`
-// tells of the dead air alone.
-#[derive(Clone, Copy)]
-pub struct Tried {
-    pub state: AudioAgc,
-    pub kept: bool,
-}
+use number::kinds::Real;
 
 impl AudioAgc {
-    // The outputs into `z`, not yet clamped.
-    pub(crate) fn try_live(self, data: &[f32], z: &mut [f32]) -> Tried
+    // The outputs into `z`, not yet clamped, and the state after the block; nothing where a sample of it would be
+    // struck, or lies in dead air.
+    pub(crate) fn try_live(self, data: &[f32], z: &mut [f32]) -> Option<AudioAgc>
         requires { (length z.old ≡ length «data».now) × (lt self.min_magnitude self.envelope ≡ true) }
-        ensures { result.kept ≡ true → gave result.state 0 (map clamp_one z.new) ≡ ran audio_stage mono self «data».now }
+        ensures { (after : AudioAgc) → result ≡ Some after → gave after 0 (map clamp_one z.new) ≡ ran audio_stage mono self «data».now }
     {
-        let mut at = Tried {
-            state: self,
-            kept: true,
-        };
-        let mut k: usize = 0;
+        let mut at = self;
+        let mut k = 0;
         while k < data.len() {
-            while falls(data, k, at.state.envelope) {
-                at = at.turn(data[k]);
-                z[k] = data[k] * at.state.gain;
+            while falls(data, k, at.envelope) {
+                at = at.signal(data[k])?;
+                z[k] = data[k] * at.gain;
                 k += 1;
             }
             if k < data.len() {
-                at = at.turn(data[k]);
-                z[k] = data[k] * at.state.gain;
+                at = at.signal(data[k])?;
+                z[k] = data[k] * at.gain;
                 k += 1;
             }
         }
-        let after = at.state;
-        let fine = stage::both_finite(after.gain, after.envelope) & stage::all_finite(&z[..]);
-        Tried {
-            state: after,
-            kept: at.kept & fine,
+        if stage::both_finite(at.gain, at.envelope) & stage::all_finite(z) {
+            Some(at)
+        } else {
+            None
         }
     }
-}
 
-impl Tried {
-    // One sample more.
-    fn turn(self, x: f32) -> Tried
-        ensures { Turned self x result }
+    // The state after one sample more; nothing where it lies in dead air.
+    fn signal(self, x: f32) -> Option<AudioAgc>
+        ensures { (after : AudioAgc) → result ≡ Some after → Turned self x after }
     {
-        let mut after = self.state;
-        let envelope = level::envelope_after(after.envelope, number::kinds::magnitude_f32(x));
-        let next = step::follow(after, envelope);
-        after.gain = next.gain;
-        after.hang_counter = next.hang;
-        after.envelope = envelope;
-        Tried {
-            state: after,
-            kept: self.kept & (after.min_magnitude < envelope),
+        let envelope = level::envelope_after(self.envelope, x.magnitude());
+        if self.min_magnitude < envelope {
+            Some(step::follow(self, envelope))
+        } else {
+            None
         }
     }
 }
@@ -80,7 +64,7 @@ fn falls(data: &[f32], k: usize, envelope: f32) -> bool
         if x != x {
             return false;
         }
-        return !(number::kinds::magnitude_f32(x) > envelope);
+        return !(x.magnitude() > envelope);
     }
     false
 }
@@ -90,9 +74,7 @@ pub(crate) fn clamp_into(z: &[f32], data: &mut [f32])
     requires { length z.now ≡ length «data».old }
     ensures { «data».new ≡ map clamp_one z.now }
 {
-    let mut k: usize = 0;
-    while k < data.len() {
-        data[k] = level::clamp(-1.0, 1.0, z[k]);
-        k += 1;
+    for (k, x) in z.iter().enumerate() {
+        data[k] = level::clamp(-1.0, 1.0, *x);
     }
 }

@@ -1,10 +1,8 @@
 -- The angles of all pairs first, then the feedback over them in place: what that leaves is what a run over the pairs gives. Assumes nothing.
-use Prim.Native.Nat.{◌/◌, ◌≤◌}
-use native.Mathlib.Omega.{arith}
+use Prim.Native.Nat.{◌/◌}
 use mathlib.Core.Path.{◌≡◌, refl, ap, ◌∙◌}
 use mathlib.Core.List.{List, ◌++◌, map}
-use lib.ListN.{length, take, drop, length-map, length-append}
-use lib.Seq.{take_at, drop_at}
+use lib.ListN.{length, drop, length-map}
 use lib.Ieee.{Float}
 use Rattle.stage.specs.Floats.{plus_zero}
 use Rattle.stage.specs.Run.{outs}
@@ -22,25 +20,12 @@ use Rattle.fm.specs.Process.{put, fm_stage, followed}
 abbrev before : List Float → Put Float FmDemodulator → Put Float FmDemodulator
 before rest p = record { refusal = p.refusal; state = p.state; count = p.count; struck = p.struck; left = p.left ++ rest }
 
-angles_count : (input : List Float) → length (map angle_of (pairs input)) ≡ length input / 2
-angles_count input = length-map (pairs input) angle_of ∙ length_pairs input
-
--- with the angles in them the first places are still there
-pub still_room : (input rest angles : List Float) → angles ≡ map angle_of (pairs input) → length input / 2 ≤ length (angles ++ rest)
-still_room input rest angles is =
-    let long : length angles ≡ length input / 2 = ap length is ∙ angles_count input in
-    rw length-append (omega arith)
-
--- `os` stands in the first places once the feedback is done, `angles` stood there before
-pub ahead : (s : FmDemodulator) (input output angles os : List Float) (r : FmDone) → angles ≡ map angle_of (pairs input)
-    → put r os ≡ followed s (take (length input / 2) (angles ++ drop (length input / 2) output))
-    → put r (os ++ drop (length input / 2) (angles ++ drop (length input / 2) output)) ≡ ran_into fm_stage s input output
-ahead s input output angles os r is gave =
+-- `os` stands in the first places once the feedback is done
+pub ahead : (s : FmDemodulator) (input output os : List Float) (r : FmDone) → put r os ≡ followed s (map angle_of (pairs input))
+    → put r (os ++ drop (length input / 2) output) ≡ ran_into fm_stage s input output
+ahead s input output os r gave =
     let n = length input / 2 in
-    let long : length angles ≡ n = ap length is ∙ angles_count input in
-    let worked = map angle_of (pairs input) in
-    let heard : put r os ≡ followed s worked = gave ∙ ap (followed s) (take_at angles (drop n output) n long ∙ is) in
+    let long : length (map angle_of (pairs input)) ≡ n = length-map (pairs input) angle_of ∙ length_pairs input in
     let os-long : length (outs fm_answer plus_zero s (pairs input)) ≡ n = length_outs fm_answer plus_zero s (pairs input) ∙ length_pairs input in
-    ap (λ (rest : List Float). put r (os ++ rest)) (drop_at angles (drop n output) n long)
-    ∙ ap (before (drop n output)) heard
-    ∙ rw (os-long, angles_count input, outs_alone fm_answer from_angle angle_of (λ t p. refl) plus_zero s (pairs input), end_alone fm_answer from_angle angle_of (λ t p. refl) s (pairs input), strikes_alone fm_answer from_angle angle_of (λ t p. refl) s (pairs input))
+    ap (before (drop n output)) gave
+    ∙ rw (os-long, long, outs_alone fm_answer from_angle angle_of (λ t p. refl) plus_zero s (pairs input), end_alone fm_answer from_angle angle_of (λ t p. refl) s (pairs input), strikes_alone fm_answer from_angle angle_of (λ t p. refl) s (pairs input))

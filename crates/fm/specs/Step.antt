@@ -7,8 +7,6 @@ use Rattle.angle.specs.Single.{PI32, two_pi32, arctan32}
 use Rattle.stage.specs.Floats.{both_finite, blend_of}
 use Rattle.stage.specs.Run.{Answer, struck, kept}
 use Rattle.fm.specs.declared.FmDemodulator.{FmDemodulator}
-use Rattle.fm.specs.declared.step.FmStep.{FmStep}
-use Rattle.fm.specs.declared.step.FmStep.TheVariants as fm-step
 
 -- the angle of a pair (I, Q): the arctangent of Q and I, which looks at the pair alone
 unfoldable pub angle_of : Float × Float → Float
@@ -23,22 +21,20 @@ unfoldable pub smoothed : FmDemodulator → Float → Float
 smoothed s phase = blend_of s.deemph_alpha s.deemph_state (wrapped (sub binary32 phase s.last_phase))
 
 -- struck where a float that would be stored or put out is not finite
-abbrev pub keep_fm : Float → Float → Float → FmStep
-keep_fm out phase state = cond (both_finite phase state && finite out) (fm-step.Kept out phase state) fm-step.Struck
+abbrev pub keep_fm : FmDemodulator → Float → Float → Float → Answer Float FmDemodulator
+keep_fm s out phase state =
+    cond (both_finite phase state && finite out)
+    (kept out (record { last_phase = phase; deemph_alpha = s.deemph_alpha; deemph_state = state }))
+    struck
 
-unfoldable pub fm_step : FmDemodulator → Float → FmStep
+unfoldable pub fm_step : FmDemodulator → Float → Answer Float FmDemodulator
 unfolding smoothed
-fm_step s phase = keep_fm (div binary32 (smoothed s phase) PI32) phase (smoothed s phase)
-
--- what the cases of a step mean
-abbrev pub fm_means : FmDemodulator → FmStep → Answer Float FmDemodulator
-fm_means s fm-step.Struck = struck
-fm_means s (fm-step.Kept out phase state) = kept out (record { last_phase = phase; deemph_alpha = s.deemph_alpha; deemph_state = state })
+fm_step s phase = keep_fm s (div binary32 (smoothed s phase) PI32) phase (smoothed s phase)
 
 -- the step of a run, from a pair
 abbrev pub fm_answer : FmDemodulator → Float × Float → Answer Float FmDemodulator
-fm_answer s p = fm_means s (fm_step s (angle_of p))
+fm_answer s p = fm_step s (angle_of p)
 
 -- the same step from the pair's angle
 abbrev pub from_angle : FmDemodulator → Float → Answer Float FmDemodulator
-from_angle s phase = fm_means s (fm_step s phase)
+from_angle s phase = fm_step s phase

@@ -11,10 +11,9 @@ pub(crate) fn angles(input: &[f32], output: &mut [f32])
     requires { length input.now ≡ length output.old + length output.old }
     ensures { output.new ≡ map angle_of (pairs input.now) }
 {
-    let mut k = fours(input, output);
-    while k < output.len() {
+    let done = fours(input, output);
+    for k in done..output.len() {
         output[k] = angle::single::arctangent_f32(input[2 * k + 1], input[2 * k]);
-        k += 1;
     }
 }
 
@@ -24,10 +23,8 @@ fn fours(input: &[f32], output: &mut [f32]) -> usize
     ensures { (result ≤ length output.new) × Holds (angle_at input.now) output.new result }
 {
     let n = output.len() / 4;
-    let mut g = 0;
-    while g < n {
+    for g in 0..n {
         four(input, output, 4 * g);
-        g += 1;
     }
     4 * n
 }
@@ -40,11 +37,7 @@ fn four(input: &[f32], output: &mut [f32], k: usize)
     let i = every_second(input, 2 * k);
     let q = every_second(input, 2 * k + 1);
     let a = angle::lanes::arctangents_f32(q, i);
-    let mut l = 0;
-    while l < 4 {
-        output[k + l] = a[l];
-        l += 1;
-    }
+    output[k..k + 4].copy_from_slice(&a);
 }
 
 // Four samples, from place `at` on: of pairs that lie interleaved, one half.
@@ -52,11 +45,5 @@ fn every_second(input: &[f32], at: usize) -> [f32; 4]
     requires { at + 7 ≤ length input.now }
     ensures { Holds (λ l. lane input.now (at + 2 * l)) result 4 }
 {
-    let mut r: [f32; 4] = [0.0; 4];
-    let mut l = 0;
-    while l < 4 {
-        r[l] = input[at + 2 * l];
-        l += 1;
-    }
-    r
+    std::array::from_fn(|l| input[at + 2 * l])
 }

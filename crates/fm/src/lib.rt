@@ -15,8 +15,6 @@ ghost use Rattle.std.specs.Prelude.{◌≡◌};
 ghost use Rattle.fm.specs.State.{answered, fresh, deemphasised};
 ghost use Rattle.fm.specs.Process.{put, followed, process_into};
 
-use step::FmStep;
-
 #[repr(C)]
 #[derive(Clone, Copy, Default)]
 pub struct FmDemodulator {
@@ -25,6 +23,7 @@ pub struct FmDemodulator {
     pub deemph_state: f32,
 }
 
+// Stays: C passes this record, so it keeps the refusal's number and takes no type parameter.
 #[repr(C)]
 #[derive(Clone, Copy)]
 pub struct FmDone {
@@ -50,12 +49,12 @@ impl FmDemodulator {
     // The same with a de-emphasis of `tau` seconds. SETTING: the alpha that there is outside 0 to 1, a rate that
     // is not finite and above 0, a tau that is not finite or below 0, an alpha that comes out outside 0 to 1;
     // STATE: a stored float that is not finite.
+    #[tactic(auto, unfolding(crate::specs::State::deemphasised))]
     pub fn with_deemphasis(mut self, sample_rate: f32, tau: f32) -> FmDone
         ensures { result ≡ deemphasised self sample_rate tau }
     {
-        let refusal = rules::deemphasis(self, sample_rate, tau);
-        if refusal != stage::NONE {
-            return self.answer(refusal, 0, 0);
+        if let Err(refusal) = rules::deemphasis(self, sample_rate, tau) {
+            return self.answer(u32::from(refusal), 0, 0);
         }
         self.deemph_alpha = rules::alpha(sample_rate, tau);
         self.answer(stage::NONE, 0, 0)
@@ -67,36 +66,21 @@ impl FmDemodulator {
     pub fn process_into(mut self, input: &[f32], output: &mut [f32]) -> FmDone
         ensures { put result output.new ≡ process_into self input.now output.old }
     {
-        let refusal = rules::processing(self, input.len(), output.len());
-        if refusal != stage::NONE {
-            return self.answer(refusal, 0, 0);
+        if let Err(refusal) = rules::processing(self, input.len(), output.len()) {
+            return self.answer(u32::from(refusal), 0, 0);
         }
-        let n = input.len() / 2;
-        angles::angles(input, &mut output[0..n]);
-        self.follow(&mut output[0..n])
+        let run = &mut output[..input.len() / 2];
+        angles::angles(input, run);
+        self.follow(run)
     }
 
     // The feedback over the pairs' angles, whose places its outputs take.
     fn follow(mut self, run: &mut [f32]) -> FmDone
         ensures { put result run.new ≡ followed self run.old }
     {
-        let mut struck: usize = 0;
-        let mut k: usize = 0;
-        while k < run.len() {
-            match step::step(self, run[k]) {
-                FmStep::Struck => {
-                    run[k] = 0.0;
-                    struck += 1;
-                }
-                FmStep::Kept(out, next, state) => {
-                    run[k] = out;
-                    self.last_phase = next;
-                    self.deemph_state = state;
-                }
-            }
-            k += 1;
-        }
-        self.answer(stage::NONE, run.len(), struck)
+        let ran = stage::run_mono(self, run);
+        self = ran.state;
+        self.answer(stage::NONE, run.len(), ran.struck)
     }
 
     fn answer(self, refusal: u32, count: usize, struck: usize) -> FmDone

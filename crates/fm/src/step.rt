@@ -2,19 +2,39 @@
 ghost use Rattle.std.specs.Prelude.{◌≡◌, cond};
 ghost use Rattle.std.specs.Float.Ieee.{lt, neg};
 ghost use Rattle.angle.specs.Single.{PI32};
-ghost use Rattle.fm.specs.Step.{wrapped, fm_step};
+ghost use Rattle.fm.specs.Step.{wrapped, from_angle};
 
 use crate::FmDemodulator;
+use number::kinds::Real;
+use stage::Feedback;
 
-// Struck, or the output, the angle and the de-emphasis to store.
-#[derive(Clone, Copy)]
-pub enum FmStep {
-    Struck,
-    Kept(f32, f32, f32),
+// The step from an angle.
+#[tactic(auto, unfolding(crate::specs::Step::fm_step, crate::specs::Step::smoothed))]
+impl Feedback<f32, f32> for FmDemodulator {
+    ghost answer = { from_angle };
+
+    fn step(self, phase: f32) -> Option<(f32, FmDemodulator)> {
+        let diff = wrap(phase - self.last_phase);
+        let state = stage::blend(self.deemph_alpha, self.deemph_state, diff);
+        let out = state / angle::single::PI;
+        if stage::both_finite(phase, state) & out.finite() {
+            Some((
+                out,
+                FmDemodulator {
+                    last_phase: phase,
+                    deemph_state: state,
+                    ..self
+                },
+            ))
+        } else {
+            None
+        }
+    }
 }
 
 // 2 x PI taken off above PI, or put on below -PI. Both are worked out before one is taken, so that noise, which
 // wraps now and then, meets no branch.
+#[tactic(auto, unfolding(crate::specs::Step::wrapped))]
 fn wrap(d: f32) -> f32
     ensures { result ≡ wrapped d }
 {
@@ -26,23 +46,10 @@ fn nearest_turn(d: f32, less: f32, more: f32) -> f32
     ensures { result ≡ cond (lt PI32 d) less (cond (lt d (neg PI32)) more d) }
 {
     if d > angle::single::PI {
-        return less;
-    }
-    if d < -angle::single::PI {
-        return more;
-    }
-    d
-}
-
-pub fn step(s: FmDemodulator, phase: f32) -> FmStep
-    ensures { result ≡ fm_step s phase }
-{
-    let diff = wrap(phase - s.last_phase);
-    let state = stage::blend(s.deemph_alpha, s.deemph_state, diff);
-    let out = state / angle::single::PI;
-    if stage::both_finite(phase, state) & number::kinds::finite_f32(out) {
-        FmStep::Kept(out, phase, state)
+        less
+    } else if d < -angle::single::PI {
+        more
     } else {
-        FmStep::Struck
+        d
     }
 }

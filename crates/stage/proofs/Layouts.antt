@@ -1,11 +1,11 @@
 -- Laws of the layouts: an interleaved list and its pairs, two lists side by side, and how each goes over a cut. Assumes nothing.
-use Prim.Native.Nat.{ℕ, suc, ◌+◌, ◌*◌, ◌/◌, ◌%◌, ◌<◌}
+use Prim.Native.Nat.{ℕ, zero, suc, ◌+◌, ◌*◌, ◌/◌, ◌%◌, ◌<◌, ◌≤◌}
 use native.Mathlib.Numerals.{add-one}
 use native.Mathlib.Omega.{arith}
 use mathlib.Core.Path.{◌≡◌, refl, ap}
 use mathlib.Core.Bool.{true}
 use mathlib.Core.List.{List, [], ◌∷◌, ◌++◌}
-use lib.ListN.{length, get_or, drop}
+use lib.ListN.{length, get_or, take, drop}
 use lib.Seq.{drop-cons}
 use borrow.Author.Tests.{eqb-true}
 use Rattle.stage.specs.Length.{is_even}
@@ -48,6 +48,25 @@ module _ {X : Type 0} where
       let h₀ : i < length xs = omega arith in
       let h₁ : suc i < length xs = omega arith in
       rw (e₁, e₂, drop-cons xs i d h₀, drop-cons xs (suc i) d h₁)
+
+  -- the pair k of the first r
+  pub pair_next : (xs : List X) (r k : ℕ) (d : X) → k < length xs / 2 → k < r
+      → drop k (take r (pairs xs)) ≡ (get_or xs (2 * k) d, get_or xs (2 * k + 1) d) ∷ drop (k + 1) (take r (pairs xs))
+  pair_next [] r k d h m = absurd (omega arith)
+  pair_next (x ∷ []) r k d h m = absurd (omega arith)
+  pair_next (x ∷ y ∷ xs) zero k d h m = absurd (omega arith)
+  pair_next (x ∷ y ∷ xs) (suc r) zero d h m = refl
+  pair_next (x ∷ y ∷ xs) (suc r) (suc k) d h m =
+      let e₀ : 2 * suc k ≡ suc (suc (2 * k)) = omega arith in
+      let e₁ : 2 * suc k + 1 ≡ suc (suc (2 * k + 1)) = omega arith in
+      let e₂ : suc k + 1 ≡ suc (k + 1) = omega arith in
+      rw (e₁, e₀, e₂) (pair_next xs r k d (omega arith) (omega arith))
+
+  -- what is left over is no pair
+  pub pairs_few : (xs : List X) → length xs ≤ 1 → pairs xs ≡ []
+  pairs_few [] h = refl
+  pairs_few (x ∷ []) h = refl
+  pairs_few (x ∷ y ∷ r) h = absurd (omega arith)
 
   pub length_pairs : (xs : List X) → length (pairs xs) ≡ length xs / 2
   length_pairs [] = refl

@@ -1,9 +1,12 @@
--- Laws of the five numbers: what number 0 says of the demands, and what a call gives by its number. Assumes nothing.
+-- Laws of the five numbers: what number 0 says of the demands, and what a call gives by its number, or by what its demands come to. Assumes nothing.
 use Prim.Native.Nat.{ℕ, zero, suc}
 use native.Mathlib.Omega.{arith}
 use mathlib.Core.Path.{◌≡◌, refl, sym, ap, ◌∙◌}
 use mathlib.Core.Bool.{Bool, true, false}
 use Rattle.stage.specs.Refusal.{NONE, refusal_no, unless, answered}
+use Rattle.stage.specs.Numbers.{number}
+use Rattle.stage.specs.declared.numbers.Refusal.{Refusal}
+use Rattle.stage.specs.declared.numbers.Refusal.TheVariants as refusal
 
 -- each demand is met
 pub record Met (s t m n r : Bool) : Type 0 where
@@ -47,3 +50,26 @@ module _ {X : Type 0} (n number : ℕ) (run was : X) (e : n ≡ number) where
 
   pub refused_answers : (n ≡ NONE → ⊥) → (n, was) ≡ answered number run was
   refused_answers h = rw e (ap {B = ℕ × X} (λ x. (number, x)) (refused_gives number run was (λ z. h (e ∙ z))))
+
+-- ---- `if let Err(refusal) = demands(..)`: in the branch the call's number is that of this refusal, and after it NONE
+
+-- which is never NONE
+pub number_ne_none : (r : Refusal) → number r ≡ NONE → ⊥
+number_ne_none refusal.Setting e = absurd (omega arith)
+number_ne_none refusal.State e = absurd (omega arith)
+number_ne_none refusal.Limit e = absurd (omega arith)
+number_ne_none refusal.Length e = absurd (omega arith)
+number_ne_none refusal.Room e = absurd (omega arith)
+
+module _ {X : Type 0} (run was : X) {n : ℕ} where
+  pub err_gives : (r : Refusal) → number r ≡ n → was ≡ unless n run was
+  err_gives r e = refused_gives n run was (λ z. number_ne_none r (e ∙ z))
+
+  pub ok_gives : NONE ≡ n → {left : X} → left ≡ run → left ≡ unless n run was
+  ok_gives e h = h ∙ run_gives n run was (sym e)
+
+  pub err_answers : (r : Refusal) → number r ≡ n → (number r, was) ≡ answered n run was
+  err_answers r e = refused_answers (number r) n run was e (number_ne_none r)
+
+  pub ok_answers : NONE ≡ n → {left : X} → left ≡ run → (NONE, left) ≡ answered n run was
+  ok_answers e {left} h = run_answers NONE n run was e left h refl

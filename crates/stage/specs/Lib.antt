@@ -1,5 +1,6 @@
 -- Definitions that the stages' contracts cite, one notion a file; Cases has worked values of them. Definitions only.
 pub mod Refusal
+pub mod Numbers
 pub mod Length
 pub mod Floats
 pub mod Settings

@@ -1,6 +1,6 @@
 -- A feedback stage over a list of samples, as document 01's "Struck samples" has it.
 -- A is a sample or a pair, B what is put out for one, S the state; `silence` is what a struck one puts out. Definitions only.
-use Rattle.std.specs.Prelude.{ℕ, ◌+◌, List, [], ◌∷◌}
+use Rattle.std.specs.Prelude.{ℕ, ◌+◌, List, [], ◌∷◌, Option, Some, None}
 
 -- a step answers struck, or what it puts out and the state after it
 pub data Answer (B S : Type 0) : Type 0 where
@@ -8,6 +8,11 @@ pub data Answer (B S : Type 0) : Type 0 where
   kept : B → S → Answer B S
 
 module _ {B S : Type 0} where
+  -- the same as code answers it
+  abbrev pub answer_of : Option (B × S) → Answer B S
+  answer_of None = struck
+  answer_of (Some p) = kept p.0 p.1
+
   -- a struck sample puts out silence
   abbrev pub out_of : B → Answer B S → B
   out_of silence struck = silence

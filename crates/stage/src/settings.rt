@@ -3,6 +3,8 @@
 ghost use Rattle.std.specs.Prelude.{◌≡◌};
 ghost use Rattle.stage.specs.Settings.{in_unit, is_positive, not_negative};
 
+use number::kinds::Real;
+
 // From 0 to 1, both ends allowed; -0.0 equals 0 and is allowed.
 pub fn in_unit(x: f32) -> bool
     ensures { result ≡ in_unit x }
@@ -11,22 +13,15 @@ pub fn in_unit(x: f32) -> bool
 }
 
 // Finite and above 0, as neither 0.0 nor -0.0 is.
-pub fn positive(x: f32) -> bool
-    ensures { result ≡ is_positive x }
+pub fn positive<F: Real>(x: F) -> bool
+    ensures { result ≡ is_positive (F.value x) }
 {
-    number::kinds::finite_f32(x) & (0.0 < x)
-}
-
-// The same of an f64.
-pub fn positive_f64(x: f64) -> bool
-    ensures { result ≡ is_positive x }
-{
-    number::kinds::finite_f64(x) & (0.0 < x)
+    x.finite() & (0.0 < x.wide())
 }
 
 // Finite and not below 0; -0.0 equals 0 and is allowed.
 pub fn not_negative(x: f32) -> bool
     ensures { result ≡ not_negative x }
 {
-    number::kinds::finite_f32(x) & (0.0 <= x)
+    x.finite() & (0.0 <= x)
 }

@@ -2,11 +2,13 @@
 ghost use Rattle.std.specs.Prelude.{◌≡◌};
 ghost use Rattle.stage.specs.Floats.{both_finite, blend_of};
 
+use number::kinds::Real;
+
 // Whether both are finite. A step whose floats are not all finite strikes its sample.
 pub fn both_finite(a: f32, b: f32) -> bool
     ensures { result ≡ both_finite a b }
 {
-    number::kinds::finite_f32(a) & number::kinds::finite_f32(b)
+    a.finite() & b.finite()
 }
 
 // The mean of `old` and `new` with the weights 1 - a and a, each operation rounded.

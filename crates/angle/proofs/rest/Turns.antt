@@ -5,14 +5,14 @@ use Rattle.std.proofs.Common.{mul-lt-mul_of_pos_right, mul-le-mul_left, mul-pos,
 use Rattle.std.proofs.Math.Nat.{mod-lt, add-mul, mod-eq_of_lt}
 use Rattle.std.proofs.lemmas.Nat.{mod-mul-add, div-add-mod'}
 use lib.Dec.{not_T}
-use lib.Ieee.{Float, nan, inf, fin, Format, binary64, up, down, round, mul, rem, of_int, of_bits, of_fields, is_nan, fits, unlike, odd}
+use lib.Ieee.{Float, nan, inf, fin, Format, binary64, up, down, round, mul, rem, of_int, of_bits, of_fields, is_nan, fits, unlike}
 use lib.Ieee.Bits.{cond_no}
 use lib.Ieee.Fits.{down_pos}
 use lib.Ieee.Positive.{first_pos}
 use lib.Ieee.Exact.{HasValue, odd_sign, round_exact}
 use lib.Ieee.Scale.{finite, round_same}
 use Rattle.number.proofs.narrow.Signed.{field_of, digits_of, apart}
-use Rattle.number.proofs.narrow.Fields.{normal, subnormal, one_below}
+use Rattle.number.proofs.narrow.Fields.{subnormal, fields_value}
 use Rattle.number.proofs.Told.{round_kept}
 use Rattle.angle.specs.Numbers.{TAU}
 
@@ -81,19 +81,6 @@ tau = (refl, refl)
 
 -- ---- what a pattern stands for
 
-value : (s : Bool) (g d : ℕ) → 0 < g → g < 2047 → HasValue (of_fields binary64 s g d) s ((d + 4503599627370496) * 2 ^ (g - 1)) (2 ^ 1074)
-value s g d l u =
-    subst (λ (v : Float). HasValue v s ((d + 4503599627370496) * 2 ^ (g - 1)) (2 ^ 1074))
-    (sym (ap (λ (z : ℕ). of_fields binary64 s z d) (sym (one_below g l)) ∙ normal s (g - 1) d (under g l u)))
-    (subst (λ (z : ℕ). HasValue (odd 53 s (4503599627370496 + d) (g - 1) 1074) s (z * 2 ^ (g - 1)) (2 ^ 1074)) (turned d)
-    (odd_sign 53 s (4503599627370496 + d) (g - 1) 1074))
-  where
-    turned : (t : ℕ) → 4503599627370496 + t ≡ t + 4503599627370496
-    turned t = omega arith
-
-    under : (g : ℕ) → 0 < g → g < 2047 → suc (g - 1) < 2047
-    under g l u = omega arith
-
 -- below 4, it is less than a turn
 small_fields : (s : Bool) (g d : ℕ) → d < 4503599627370496 → g < 1025
     → (w : ℕ) × HasValue (of_fields binary64 s g d) s w (2 ^ 1074) × (w < 7074237752028440 * 2 ^ 1024)
@@ -107,7 +94,7 @@ small_fields s (suc x) d D h =
     let top : d + 4503599627370496 < 9007199254740992 = omega arith in
     let low : suc x - 1 ≤ 1023 = omega arith in (
       (d + 4503599627370496) * 2 ^ (suc x - 1),
-      value s (suc x) d (zero-lt-suc x) few,
+      fields_value s (suc x) d (zero-lt-suc x) few,
       lt_of_lt_of_le (mul-lt-mul_of_pos_right top (pow_pos (suc x - 1)))
           (le_trans (mul-le-mul_left 9007199254740992 (pow_mono low)) (lit≤ tt)),
     )
@@ -179,7 +166,7 @@ from_four x b t B l u S =
     ∙ beyond_turn x t (digits_of b + 4503599627370496) (field_of b)
     (subst (λ (v : Float). HasValue v t ((digits_of b + 4503599627370496) * 2 ^ (field_of b - 1)) (2 ^ 1074))
     (ap (λ (s : Bool). of_fields binary64 s (field_of b) (digits_of b)) (sym S) ∙ sym (apart b) ∙ B)
-    (value t (field_of b) (digits_of b) (lt_of_lt_of_le (lit< tt) l) u))
+    (fields_value t (field_of b) (digits_of b) (lt_of_lt_of_le (lit< tt) l) u))
     l
   where
     r : ℕ

@@ -3,47 +3,35 @@ use Rattle.std.proofs.Common.{◌≡◌, ℕ, zero, suc, ◌+◌, ◌/◌, ◌%�
 use native.Mathlib.Nat.{mod-mod}
 use lib.Arith.{lt→nleb}
 use lib.Pow.{mod-mod-pow}
-use lib.Ieee.{Float, Format, binary32, binary64, top, hid, ones, prec, low, odd, inf, nan, fin, lt, is_nan, fits, nan_bits, of_fields, of_bits, to_bits}
+use lib.Ieee.{Float, Format, binary32, binary64, top, hid, ones, prec, low, odd, inf, nan, fin, lt, ne, is_nan, fits, nan_bits, of_fields, of_bits, to_bits}
 use lib.Ieee.Bits.{of_bits-to_bits, is_false, nan_bits_is}
 use lib.Ieee.Scale.{finite}
+use Rattle.std.specs.Float.{is_sign_negative}
+use Rattle.number.proofs.Nan.{is_the_nan, is_number}
 use Rattle.number.specs.Kinds.{absolute, negative}
 
 -- ---- finite: between the two infinities
-pub between : (x : Float) → (lt (inf true) x && lt x (inf false)) ≡ finite x
+between : (x : Float) → (lt (inf true) x && lt x (inf false)) ≡ finite x
 unfolding lt
 between nan = refl
 between (inf true) = refl
 between (inf false) = refl
 between (fin s m e) = refl
 
--- ---- the sign is the highest bit
-sign_of_odd : (d : ℕ) (s : Bool) (q k l : ℕ) → negative (odd d s q k l) ≡ s
-unfolding odd negative
-sign_of_odd d s zero k l = refl
-sign_of_odd d s (suc q) k l = refl
-
-sign_of_top : (s b : Bool) → T (not (is_nan (cond b (inf s) nan))) → negative (cond b (inf s) nan) ≡ s
-unfolding is_nan negative
-sign_of_top s true h = refl
-sign_of_top s false h = absurd h
-
-sign_of_fields : (f : Format) (s : Bool) (x t : ℕ) → T (not (is_nan (of_fields f s x t))) → negative (of_fields f s x t) ≡ s
-unfolding of_fields
-sign_of_fields f s zero t h = sign_of_odd (prec f) s t 0 (low f)
-sign_of_fields f s (suc x) t h = go (eqb (suc x) (ones f)) h
-  where
-    go : (b : Bool) → T (not (is_nan (cond b (cond (eqb t 0) (inf s) nan) (odd (prec f) s (hid f + t) x (low f))))) → negative (cond b (cond (eqb t 0) (inf s) nan) (odd (prec f) s (hid f + t) x (low f))) ≡ s
-    go true g = sign_of_top s (eqb t 0) g
-    go false g = sign_of_odd (prec f) s (hid f + t) x (low f)
-
-sign_of_bits : (f : Format) (n : ℕ) → T (not (is_nan (of_bits f n))) → negative (of_bits f n) ≡ leb (top f) n
+pub between_f32 : (x : Float) → (lt (of_bits binary32 0xff80_0000) x && lt x (of_bits binary32 0x7f80_0000)) ≡ finite x
 unfolding of_bits
-sign_of_bits f n h = sign_of_fields f (leb (top f) n) (n % top f / hid f) (n % hid f) h
+between_f32 x = between x
 
-pub sign_is_top_bit : (f : Format) (x : Float) → T (fits f x) → T (not (is_nan x)) → leb (top f) (to_bits f x) ≡ negative x
-sign_is_top_bit f x F h =
-    let e = of_bits-to_bits f x F in
-    sym (sign_of_bits f (to_bits f x) (subst (λ (y : Float). T (not (is_nan y))) (sym e) h)) ∙ ap negative e
+pub between_f64 : (x : Float) → (lt (of_bits binary64 0xfff0_0000_0000_0000) x && lt x (of_bits binary64 0x7ff0_0000_0000_0000)) ≡ finite x
+unfolding of_bits
+between_f64 x = between x
+
+-- ---- the sign, as std has it of a number
+pub same_sign : (x : Float) → is_sign_negative x ≡ negative x
+unfolding is_sign_negative negative
+same_sign nan = refl
+same_sign (inf s) = refl
+same_sign (fin s m e) = refl
 
 -- ---- the pattern without the highest bit is the number without its sign
 clear_odd : (d : ℕ) (s : Bool) (q k l : ℕ) → odd d false q k l ≡ absolute (odd d s q k l)
@@ -77,8 +65,8 @@ clear_bits f n =
     ∙ ap (λ (x : ℕ). of_fields f false (n % top f / hid f) x) (digits_stay f n)
     ∙ clear_fields f (leb (top f) n) (n % top f / hid f) (n % hid f)
 
-pub magnitude_is_rest : (f : Format) (x : Float) → T (fits f x) → of_bits f (to_bits f x % top f) ≡ absolute x
-magnitude_is_rest f x F = clear_bits f (to_bits f x) ∙ ap absolute (of_bits-to_bits f x F)
+pub magnitude_is_rest : (f : Format) (x : Float) → fits f x ≡ true → of_bits f (to_bits f x % top f) ≡ absolute x
+magnitude_is_rest f x F = clear_bits f (to_bits f x) ∙ ap absolute (of_bits-to_bits f x (subst T (sym F) tt))
 
 absolute_number : (x : Float) → T (not (is_nan x)) → T (not (is_nan (absolute x)))
 unfolding is_nan absolute
@@ -86,14 +74,20 @@ absolute_number nan h = h
 absolute_number (inf s) h = tt
 absolute_number (fin s m e) h = tt
 
-pub rest_is_number : (f : Format) (x : Float) → T (fits f x) → T (not (is_nan x)) → T (not (nan_bits f (to_bits f x % top f)))
-rest_is_number f x F h = subst (λ (b : Bool). T (not b)) (sym (nan_bits_is f (to_bits f x % top f) ∙ ap is_nan (magnitude_is_rest f x F))) (absolute_number x h)
+pub rest_is_number : (f : Format) (x : Float) → ne x x ≡ false → fits f x ≡ true → T (not (nan_bits f (to_bits f x % top f)))
+rest_is_number f x h F = subst (λ (b : Bool). T (not b)) (sym (nan_bits_is f (to_bits f x % top f) ∙ ap is_nan (magnitude_is_rest f x F))) (absolute_number x (is_number x h))
 
 -- ---- NaN
-pub magnitude_of_nan : (x : Float) → x ≡ nan → x ≡ absolute x
+pub magnitude_of_nan : (x : Float) → ne x x ≡ true → x ≡ absolute x
 unfolding absolute
-magnitude_of_nan x e = e ∙ ap absolute (sym e)
+magnitude_of_nan x h = let e = is_the_nan x h in e ∙ ap absolute (sym e)
 
-pub sign_of_nan : (x : Float) → x ≡ nan → false ≡ negative x
+pub sign_of_nan : (x : Float) → ne x x ≡ true → false ≡ negative x
 unfolding negative
-sign_of_nan x e = ap negative (sym e)
+sign_of_nan x h = ap negative (sym (is_the_nan x h))
+
+pub number : (x : Float) → ne x x ≡ false → T (not (is_nan x))
+number = is_number
+
+-- ---- all that the answers at either width come to
+pub ruleset laws = (between_f32, between_f64, same_sign, sign_of_nan, magnitude_of_nan, magnitude_is_rest, rest_is_number, number)

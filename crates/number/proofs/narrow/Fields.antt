@@ -41,12 +41,15 @@ one_below g h = omega arith
 turned : (t : ℕ) → 4503599627370496 + t ≡ t + 4503599627370496
 turned t = omega arith
 
+-- from field 1 on
+pub fields_value : (s : Bool) (g d : ℕ) → 0 < g → g < 2047 → HasValue (of_fields binary64 s g d) s ((d + 4503599627370496) * 2 ^ (g - 1)) (2 ^ 1074)
+fields_value s g d l u =
+    subst (λ (v : Float). HasValue v s ((d + 4503599627370496) * 2 ^ (g - 1)) (2 ^ 1074))
+    (sym (ap (λ (z : ℕ). of_fields binary64 s z d) (sym (one_below g l)) ∙ normal s (g - 1) d (subst (λ (z : ℕ). z < 2047) (sym (one_below g l)) u)))
+    (subst (λ (z : ℕ). HasValue (odd 53 s (4503599627370496 + d) (g - 1) 1074) s (z * 2 ^ (g - 1)) (2 ^ 1074)) (turned d) (odd_sign 53 s (4503599627370496 + d) (g - 1) 1074))
+
 narrowed_fields : (s : Bool) (g t : ℕ) → 0 < g → g < 2047 → narrowed (of_fields binary64 s g t) ≡ round binary32 s ((t + 4503599627370496) * 2 ^ (g - 1)) (2 ^ 1074)
-narrowed_fields s g t l u =
-    ap (λ (x : ℕ). narrowed (of_fields binary64 s x t)) (sym (one_below g l))
-    ∙ ap narrowed (normal s (g - 1) t (subst (λ (x : ℕ). x < 2047) (sym (one_below g l)) u))
-    ∙ narrowed_odd s (2 ^ 52 + t) (g - 1)
-    ∙ ap (λ (x : ℕ). round binary32 s (x * 2 ^ (g - 1)) (2 ^ 1074)) (turned t)
+narrowed_fields s g t l u = narrowed_val (of_fields binary64 s g t) s ((t + 4503599627370496) * 2 ^ (g - 1)) (2 ^ 1074) (pow_pos 1074) (fields_value s g t l u)
 
 -- ---- the four ranges
 pub digits_lt : (t : ℕ) → t < 4503599627370496 → t + 4503599627370496 < 9007199254740992

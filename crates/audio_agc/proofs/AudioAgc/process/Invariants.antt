@@ -1,13 +1,9 @@
--- `audio_agc::AudioAgc::process` meets its contract: its loop goes on by a block whose run is the definition's, and where the number refuses nothing is done. Assumes nothing.
-use Prim.Native.Nat.{◌-◌}
-use lib.ListN.{length}
+-- `audio_agc::AudioAgc::process` meets its contract: its loop goes on by a block whose run is the definition's. Assumes nothing.
+use Prim.Native.Nat.{◌*◌}
 use Rattle.stage.specs.Lent.{mono}
 use Rattle.stage.proofs.InParts.{PartLoop}
 use Rattle.audio_agc.specs.Process.{audio_stage}
 use Rattle.audio_agc.proofs.AudioAgc.process.Given as goal
 
-abbrev pub invariant-loop-k : goal.invariant-loop-k
-invariant-loop-k l = PartLoop audio_stage mono l.initial.self l.initial.data l.data l.self l.struck l.k
-
-abbrev pub decreases-loop-k : goal.decreases-loop-k
-decreases-loop-k l = length l.initial.data - l.k
+abbrev pub invariant-loop-b : goal.invariant-loop-b
+invariant-loop-b l = PartLoop audio_stage mono l.fn.self l.fn.«data» l.«data» l.self l.struck (32 * l.b)

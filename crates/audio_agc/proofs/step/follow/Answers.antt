@@ -1,4 +1,5 @@
 -- `audio_agc::step::follow` meets its contract: on each of the three ways the tests decide the definition's. Assumes nothing.
+use mathlib.Core.Path.{refl}
 use borrow.Author.Tests.{lt-ltb, le-ltb}
 use Rattle.audio_agc.specs.Step.{live_step}
 use Rattle.audio_agc.proofs.Tried.{blend_was}
@@ -6,12 +7,12 @@ use Rattle.audio_agc.proofs.step.follow.Goals as goal
 
 pub returns-then-error-s : goal.returns-then-error-s
 unfolding live_step
-returns-then-error-s c = rw c.blend.ensures (record { lives = λ x. rw c.if-error-s.true; was = blend_was _ _ _ })
+returns-then-error-s c = rw c.blend.ensures (record { lives = λ x. rw c.if-error-s.true; stays = refl; was = blend_was _ _ _ })
 
 pub returns-then-s-gt0 : goal.returns-then-s-gt0
 unfolding live_step
-returns-then-s-gt0 c = record { lives = λ x. rw (c.if-error-s.false, lt-ltb _ _ c.if-s-gt0.true); was = λ h. h }
+returns-then-s-gt0 c = record { lives = λ x. rw (c.if-error-s.false, lt-ltb _ _ c.if-s-gt0.true); stays = refl; was = λ h. h }
 
 pub returns : goal.returns
 unfolding live_step
-returns c = rw (c.blend-2.ensures, c.slow_decay-part.ensures) (record { lives = λ x. rw (c.if-error-s.false, le-ltb _ _ c.if-s-gt0.false); was = blend_was _ _ _ })
+returns c = rw (c.blend-2.ensures, c.slow_decay-part.ensures) (record { lives = λ x. rw (c.if-error-s.false, le-ltb _ _ c.if-s-gt0.false); stays = refl; was = blend_was _ _ _ })

@@ -10,7 +10,6 @@ use Rattle.angle.proofs.Holding.{holds_more}
 use Rattle.stage.specs.Layout.{pairs}
 use Rattle.fm.specs.Step.{angle_of}
 use Rattle.fm.specs.Angles.{angle_at}
-use borrow.Author.Rules.{rules}
 use Rattle.fm.proofs.angles.angles.Goals as goal
 
 -- behind the first pair each has one place less
@@ -29,20 +28,13 @@ all-angles (i ∷ []) (a ∷ more) e h = absurd (omega arith)
 all-angles (i ∷ q ∷ xs) (a ∷ more) e h =
     rw (h 0 (omega arith), all-angles xs more (omega arith) (λ j lt. h (suc j) (omega arith) ∙ next_pair i q xs j))
 
-pub loop-k-init : goal.loop-k-init
-loop-k-init c =
-    (search rules, c.fours-k.ensures.0, c.fours-k.ensures.1)
-
-pub loop-k-smaller : goal.loop-k-smaller
-loop-k-smaller c = simp length-set (omega arith)
-
 pub loop-k-preserved : goal.loop-k-preserved
 unfolding angle_of
 loop-k-preserved c =
     let l = c.loop-k in
-    (simp length-set l.invariant.0, simp length-set (omega arith), holds_more _ l.output l.k c.arctangent_f32.result l.invariant.2 (omega arith) c.arctangent_f32.ensures)
+    (simp length-set l.invariant.0, holds_more _ l.output l.k c.arctangent_f32.result l.invariant.1 (omega arith) c.arctangent_f32.ensures)
 
 pub returns : goal.returns
 returns c =
     let l = c.loop-k in
-    all-angles c.args.input.now l.output l.invariant.0 (λ j h. l.invariant.2 j (omega arith))
+    all-angles c.args.input.now l.output (rw l.invariant.0 c.requires) (λ j h. l.invariant.1 j (omega arith))

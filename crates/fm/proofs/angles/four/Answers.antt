@@ -1,16 +1,19 @@
--- `fm::angles::four` meets its contract. The loop's invariant: the angles of the pairs before k + l are written. Assumes nothing.
-use mathlib.Core.Path.{◌≡◌}
+-- `fm::angles::four` meets its contract: behind the angles that stand there lie the four of its lanes. Assumes nothing.
+use mathlib.Core.Path.{◌≡◌, refl, ◌∙◌}
 use mathlib.Core.List.{List}
-use Prim.Native.Nat.{ℕ, ◌+◌, ◌*◌}
+use Prim.Native.Nat.{ℕ, ◌+◌, ◌*◌, ◌-◌, ◌≤◌, ◌<◌}
+use native.Mathlib.Decide.{dec_lt}
 use native.Mathlib.Omega.{arith}
-use lib.ListN.{length-set}
-use lib.Ieee.{Float}
+use lib.ListN.{length, take, get_or-append}
+use lib.Seq.{length-take-le}
+use lib.Ieee.{Float, nan}
+use Rattle.std.proofs.lemmas.List.{get_or-take, get_or-append_right}
+use borrow.Rule.Slice.PartMut.{put_mid}
 use Rattle.angle.specs.Single.{arctan32}
 use Rattle.angle.specs.Lanes.{lane, Holds, arctans32}
-use Rattle.angle.proofs.Holding.{holds_more, four_holds}
+use Rattle.angle.proofs.Holding.{four_holds}
 use Rattle.fm.specs.Step.{angle_of}
 use Rattle.fm.specs.Angles.{angle_at}
-use borrow.Author.Rules.{rules}
 use Rattle.fm.proofs.angles.four.Goals as goal
 
 -- lane l is pair k + l
@@ -22,24 +25,22 @@ lanes-angles input a q i k e of-q of-i l h =
     let first : 2 * k + 2 * l ≡ 2 * (k + l) = omega arith in
     rw (e, four_holds (λ l. arctan32 (lane q l) (lane i l)) l h, of-q l h, of-i l h, second, first)
 
-pub loop-l-init : goal.loop-l-init
-loop-l-init c =
-    let e : c.args.k + 0 ≡ c.args.k = omega arith in
-    (search rules, search rules, rw e c.requires.2)
+-- n more places, written at once
+module _ (f : ℕ → Float) (out more : List Float) (k n : ℕ) (room : k + n ≤ length out) (long : length more ≡ n) (before : Holds f out k) (new : Holds (λ l. f (k + l)) more n) where
+  at : (l : ℕ) → l < k + n → Dec (l < k) → lane (put_mid k n out more) l ≡ f l
+  at l h (yes below) = get_or-append (take k out) _ nan l (rw (length-take-le k out (omega arith)) below) ∙ get_or-take k out l nan below ∙ before l below
+  at l h (no above) =
+      let back : k + (l - k) ≡ l = omega arith in
+      get_or-append_right (take k out) _ k l nan (length-take-le k out (omega arith)) (omega arith) ∙ get_or-append more _ nan (l - k) (omega arith) ∙ rw back at (new (l - k) (omega arith))
 
-pub loop-l-preserved : goal.loop-l-preserved
-loop-l-preserved c =
-    let l = c.loop-l in
-    let q = c.every_second-q in
-    let i = c.every_second-i in
-    let a = c.args in
-    let more : a.k + (l.l + 1) ≡ a.k + l.l + 1 = omega arith in
-    let is = lanes-angles a.input.now c.arctangents_f32-a.result q.result i.result a.k c.arctangents_f32-a.ensures q.ensures i.ensures in
-    (search rules, simp length-set l.invariant.1, rw more (holds_more (angle_at a.input.now) l.output (a.k + l.l) _ l.invariant.2 (omega arith) (is l.l (omega arith))))
+  holds_mid : Holds f (put_mid k n out more) (k + n)
+  holds_mid l h = at l h (dec_lt l k)
 
 pub returns : goal.returns
 returns c =
-    let l = c.loop-l in
+    let q = c.every_second-q in
+    let i = c.every_second-i in
     let a = c.args in
-    let e : a.k + 4 ≡ a.k + l.l = omega arith in
-    rw e l.invariant.2
+    let four : a.k + 4 - a.k ≡ 4 = omega arith in
+    let is = lanes-angles a.input.now c.arctangents_f32-a.result q.result i.result a.k c.arctangents_f32-a.ensures q.ensures i.ensures in
+    rw four (holds_mid (angle_at a.input.now) a.output.now c.copy_from_slice.new.self a.k 4 (omega arith) (rw (c.copy_from_slice.ensures.after, c.arctangents_f32-a.ensures) refl) c.requires.2 (rw c.copy_from_slice.ensures.after is))

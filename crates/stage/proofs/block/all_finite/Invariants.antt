@@ -1,12 +1,8 @@
--- `stage::block::all_finite` meets its contract. The loop's invariant: `all` tells of the first k. Assumes nothing.
-use Prim.Native.Nat.{◌-◌, ◌≤◌}
+-- `stage::block::all_finite` meets its contract. The loop's invariant: `all` tells of those that were seen. Assumes nothing.
 use mathlib.Core.Path.{◌≡◌}
-use lib.ListN.{length, take}
+use lib.ListN.{take}
 use Rattle.stage.specs.Floats.{all_finite}
 use Rattle.stage.proofs.block.all_finite.Given as goal
 
-abbrev pub invariant-loop-k : goal.invariant-loop-k
-invariant-loop-k l = (l.k ≤ length l.xs) × (l.all ≡ all_finite (take l.k l.xs))
-
-abbrev pub decreases-loop-k : goal.decreases-loop-k
-decreases-loop-k l = length l.xs - l.k
+abbrev pub invariant-loop-x : goal.invariant-loop-x
+invariant-loop-x l = l.all ≡ all_finite (take l.x-index l.xs)

@@ -1,5 +1,0 @@
--- `stage::settings::positive` meets its contract: the test of finiteness is the definition's. Assumes nothing.
-use Rattle.stage.proofs.settings.positive.Goals as goal
-
-pub returns : goal.returns
-returns c = rw c.finite_f32.ensures
