@@ -62,13 +62,8 @@ impl Listener {
         }
     }
 
-    // One read, and the sound of the whole pairs that there are then. The byte that waits goes in front of what is read.
-    fn turn(
-        &mut self,
-        rt: &impl Print,
-        input: &mut impl Read,
-        block: &mut [u8],
-    ) -> Result<(), End>
+    // One read, and the sound of the whole pairs that there are then. The byte that waits goes before what is read.
+    fn turn(&mut self, rt: &impl Print, input: &mut impl Read, block: &mut [u8]) -> Result<(), End>
         requires { 1 ≤ length block.old }
     {
         let held = match self.odd {

@@ -13,9 +13,8 @@ impl Receiver {
         ensures { (result, taps.new, i_history.new, q_history.new) ≡ made taps.old i_history.old q_history.old }
     {
         let fits = rules::lengths_fit(taps, i_history, q_history);
-        let number = stage::refusal(true, true, true, fits, true);
-        if number != stage::NONE {
-            return Receiver::default().silent(number);
+        if let Err(refusal) = stage::demands(true, true, true, fits, true) {
+            return Receiver::default().silent(u32::from(refusal));
         }
         Decimator::with_factor(10, taps, i_history);
         Decimator::with_factor(10, taps, q_history);

@@ -22,15 +22,15 @@ impl Receiver {
     {
         let n = input.len();
         let m = fir::count(10, self.phase, n / 2);
-        let number = stage::refusal(
+        let demands = stage::demands(
             self.setting(),
             self.state(),
             n <= BLOCK,
             stage::even(n) & rules::lengths_fit(taps, i_history, q_history),
             m <= output.len() / 4,
         );
-        if number != stage::NONE {
-            return self.silent(number);
+        if let Err(refusal) = demands {
+            return self.silent(u32::from(refusal));
         }
         let count = 4 * m;
         let state = self.play(taps, i_history, q_history, input, &mut output[..count]);

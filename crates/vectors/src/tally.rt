@@ -38,7 +38,7 @@ impl fmt::Display for Tally {
     }
 }
 
-// Runs every case of the file and tells the sums, each after its name. Nothing is told of a line that cannot be written.
+// Runs every case of the file and tells the sums, each after its name. A line that cannot be written is left out.
 pub fn tell(rt: &(impl Print + AllocGlobal), names: &[u8], file: &[u8]) -> Result<(), AllocError> {
     let tallies = tallies(rt.alloc(), file)?;
     for (name, tally) in names.chunks_exact(NAME).zip(tallies.iter()) {
