@@ -1,11 +1,18 @@
 // Sine and cosine: the angle is reduced to one turn, and a nested series worked from its last divisor
 // to its first.
 ghost use Rattle.std.specs.Prelude.{◌≡◌};
-ghost use Rattle.angle.specs.Turn.{pulled, reduced, nested, sine_divisors, cosine_divisors, sined, cosined};
+ghost use Rattle.angle.specs.Turn.{pulled, reduced, nested, sined, cosined};
 
 pub const PI: f64 = 3.141592653589793;
 
 pub const TAU: f64 = 6.283185307179586;
+
+// 2k(2k + 1) for k from 1 to 13, and (2k - 1)2k for k from 1 to 14.
+const SINE_DIVISORS: [u16; 13] = [6, 20, 42, 72, 110, 156, 210, 272, 342, 420, 506, 600, 702];
+
+const COSINE_DIVISORS: [u16; 14] = [
+    2, 12, 30, 56, 90, 132, 182, 240, 306, 380, 462, 552, 650, 756,
+];
 
 // The sine of x; NaN where x is not finite.
 #[tactic(auto, unfolding(crate::specs::Turn::sined, crate::specs::Turn::sine_of))]
@@ -13,7 +20,7 @@ pub fn sine(x: f64) -> f64
     ensures { result ≡ sined x }
 {
     let r = reduce(x);
-    r * sine_series(r * r)
+    r * series(r * r, &SINE_DIVISORS)
 }
 
 // The cosine of x; NaN where x is not finite.
@@ -22,7 +29,7 @@ pub fn cosine(x: f64) -> f64
     ensures { result ≡ cosined x }
 {
     let r = reduce(x);
-    cosine_series(r * r)
+    series(r * r, &COSINE_DIVISORS)
 }
 
 // x less whole turns, from -PI to PI; NaN where x is not finite. The remainder is exact.
@@ -47,39 +54,14 @@ pub fn pull(r: f64) -> f64
     r
 }
 
-fn sine_series(z: f64) -> f64
-    ensures { result ≡ nested z sine_divisors }
+// The series from its last divisor to its first, t = 1 - (z x t) / d at each.
+fn series(z: f64, divisors: &[u16]) -> f64
+    ensures { result ≡ nested z divisors.now }
 {
-    let t = 1.0 - (z * 1.0) / 702.0;
-    let t = 1.0 - (z * t) / 600.0;
-    let t = 1.0 - (z * t) / 506.0;
-    let t = 1.0 - (z * t) / 420.0;
-    let t = 1.0 - (z * t) / 342.0;
-    let t = 1.0 - (z * t) / 272.0;
-    let t = 1.0 - (z * t) / 210.0;
-    let t = 1.0 - (z * t) / 156.0;
-    let t = 1.0 - (z * t) / 110.0;
-    let t = 1.0 - (z * t) / 72.0;
-    let t = 1.0 - (z * t) / 42.0;
-    let t = 1.0 - (z * t) / 20.0;
-    1.0 - (z * t) / 6.0
-}
-
-fn cosine_series(z: f64) -> f64
-    ensures { result ≡ nested z cosine_divisors }
-{
-    let t = 1.0 - (z * 1.0) / 756.0;
-    let t = 1.0 - (z * t) / 650.0;
-    let t = 1.0 - (z * t) / 552.0;
-    let t = 1.0 - (z * t) / 462.0;
-    let t = 1.0 - (z * t) / 380.0;
-    let t = 1.0 - (z * t) / 306.0;
-    let t = 1.0 - (z * t) / 240.0;
-    let t = 1.0 - (z * t) / 182.0;
-    let t = 1.0 - (z * t) / 132.0;
-    let t = 1.0 - (z * t) / 90.0;
-    let t = 1.0 - (z * t) / 56.0;
-    let t = 1.0 - (z * t) / 30.0;
-    let t = 1.0 - (z * t) / 12.0;
-    1.0 - (z * t) / 2.0
+    let n = divisors.len();
+    let mut t = 1.0;
+    for k in 0..n {
+        t = 1.0 - (z * t) / divisors[n - 1 - k] as f64;
+    }
+    t
 }
