@@ -105,6 +105,9 @@ within h x y = one_answer (λ r. (r, (tt, tt)))
 pub even : NoSecond stage-says.even.ended stage.even.Reads.Learnt
 even h x y = one_answer (λ r. (r, (tt, tt)))
 
+pub only_odd_up_to : NoSecond stage-says.odd_up_to.ended stage.odd_up_to.Reads.Learnt
+only_odd_up_to h x y = one_answer (λ r. (r, (tt, (tt, tt))))
+
 pub only_in_unit : NoSecond stage-says.in_unit.ended stage.in_unit.Reads.Learnt
 only_in_unit h x y = one_answer (λ r. (r, (tt, tt)))
 
