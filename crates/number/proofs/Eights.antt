@@ -7,6 +7,7 @@ use Rattle.std.specs.List.{list_all}
 use Rattle.std.specs.Iterator.{Yields, CallableAtEachTurn}
 use Rattle.std.specs.Array.{list_steps, IsMapOf}
 use Rattle.std.proofs.lemmas.List.{ext_get_or, get_or-map, length-map}
+use Rattle.std.proofs.lemmas.Bool.{false_from_ne_true}
 use Rattle.std.proofs.lemmas.Option.{cond_some}
 use Rattle.number.specs.Narrow.{narrowed}
 use Rattle.number.specs.Eight.{is_near, eight_of}
@@ -40,11 +41,7 @@ unfolding eight_of
 none_where_far xs e = rw e refl
 
 pub none_where_nan : (xs : List Float) → list_all is_number xs ≡ false → None ≡ eight_of xs
-none_where_nan xs e = none_where_far xs (go (list_all is_near xs) refl)
-  where
-    go : (b : Bool) → list_all is_near xs ≡ b → b ≡ false
-    go true h = absurd (false≢true (sym e ∙ near_numbers xs h))
-    go false h = refl
+none_where_nan xs e = none_where_far xs (false_from_ne_true _ (λ h. false≢true (sym e ∙ near_numbers xs h)))
 
 -- eight that are there are those narrowed
 pub eight_narrows : (xs ys : List Float) → Some ys ≡ eight_of xs → ys ≡ map narrowed xs
