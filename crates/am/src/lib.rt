@@ -25,7 +25,7 @@ pub struct AmDemodulator {
     pub hp_state: f32,
 }
 
-// Stays: C reads this record (`tl_am_process_into`), so it has no type parameter for the state, and `refusal` is a number.
+// Stays: C reads this record (`tl_am_process_into`): no type parameter for the state, and a number for the refusal.
 #[repr(C)]
 #[derive(Clone, Copy)]
 pub struct AmDone {

@@ -14,7 +14,7 @@ use Rattle.stage.proofs.Lents.{mono_lawful, interleaved_lawful, split_lawful}
 use Rattle.stage.proofs.Dropped.{call_dropped}
 use Rattle.stage.proofs.NotFinite.{sub_not_finite, half_not_finite}
 use Rattle.dc_remover.specs.declared.DcRemover.{DcRemover}
-use Rattle.dc_remover.specs.Step.{mean_after, mono_answer, pair_answer}
+use Rattle.dc_remover.specs.Step.{mean_after, less_mean, mono_answer, pair_answer}
 use Rattle.dc_remover.specs.Process.{mono_stage, pair_stage, process_mono, process, process_split}
 
 pub mono_dropped : (s : DcRemover) (xs : List Float) → (process_mono s xs).refusal ≡ NONE
@@ -41,4 +41,4 @@ unfolding pair_answer
 not_finite_pair_struck s p h =
     let i = mean_after s.alpha s.avg_i p.0 in
     let q = mean_after s.alpha s.avg_q p.1 in
-    rw (half_not_finite p.0 p.1 _ _ (sub_not_finite binary32 p.0 i) (sub_not_finite binary32 p.1 q) h)
+    rw (half_not_finite p.0 p.1 (less_mean s.alpha s.avg_i p.0) (less_mean s.alpha s.avg_q p.1) (sub_not_finite binary32 p.0 i) (sub_not_finite binary32 p.1 q) h)

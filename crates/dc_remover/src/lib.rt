@@ -33,7 +33,7 @@ pub struct DcRemover {
 
 // What every call answers: the number of the refusal, 0 for none; the state for the next call, which is
 // the one handed in where this one is refused; and how many samples or pairs were struck.
-// Stays: C reads this record (`tl_dc_remover_process`), so it has no type parameter for the state, and `refusal` is a number.
+// Stays: C reads this record (`tl_dc_remover_process`): no type parameter for the state, and a number for the refusal.
 #[repr(C)]
 #[derive(Clone, Copy)]
 pub struct DcRemoverDone {

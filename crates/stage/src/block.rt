@@ -5,7 +5,8 @@ ghost use Rattle.stage.specs.Layout.{copied};
 
 use number::kinds::Real;
 
-/// Whether each is finite. Without a branch: several are tested side by side, where `all` would stop at the first that is not.
+// Whether each is finite. Without a branch, so that several are tested side by side: `all` would stop at the first
+// that is not.
 pub fn all_finite(xs: &[f32]) -> bool
     ensures { result ≡ all_finite xs.now }
 {
@@ -16,7 +17,7 @@ pub fn all_finite(xs: &[f32]) -> bool
     all
 }
 
-/// Writes `from` to a slice that has as many places; else nothing.
+// Writes `from` to a slice that has as many places; else nothing.
 pub fn copy(from: &[f32], to: &mut [f32])
     ensures { to.new ≡ copied from.now to.old }
 {

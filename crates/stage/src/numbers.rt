@@ -4,7 +4,7 @@ ghost use Rattle.stage.specs.Refusal.{refusal_no};
 ghost use Rattle.stage.specs.Numbers.{number, number_of};
 ghost use Rattle.stage.specs.Length.{is_within, is_even};
 
-/// Why a call is refused: document 01, "Five numbers". What each says of the call stands at its number's definition.
+// Why a call is refused: document 01, "Five numbers". What each says of the call stands at its number's definition.
 #[derive(Clone, Copy, Debug, PartialEq, Eq)]
 pub enum Refusal {
     Setting,
@@ -14,7 +14,7 @@ pub enum Refusal {
     Room,
 }
 
-/// The number of a call that is not refused.
+// The number of a call that is not refused.
 pub const NONE: u32 = 0;
 
 impl From<Refusal> for u32 {
@@ -31,11 +31,11 @@ impl From<Refusal> for u32 {
     }
 }
 
-/// The most elements that an input or an in-place slice may have.
+// The most elements that an input or an in-place slice may have.
 pub const LONGEST: usize = 262_144;
 
-/// The first demand that is not met, in the order of the table.
-/// A flag says that its demand is met; a call that makes no such demand passes true.
+// The first demand that is not met, in the order of the table.
+// A flag says that its demand is met; a call that makes no such demand passes true.
 pub fn demands(
     setting: bool,
     state: bool,
@@ -58,14 +58,14 @@ fn demand(met: bool, refusal: Refusal) -> Result<(), Refusal>
     if met { Ok(()) } else { Err(refusal) }
 }
 
-/// Whether a slice of n elements is within the limit, LONGEST itself included.
+// Whether a slice of n elements is within the limit, LONGEST itself included.
 pub fn within(n: usize) -> bool
     ensures { result ≡ is_within n }
 {
     n <= LONGEST
 }
 
-/// Whether n elements are whole pairs.
+// Whether n elements are whole pairs.
 pub fn even(n: usize) -> bool
     ensures { result ≡ is_even n }
 {

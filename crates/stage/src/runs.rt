@@ -4,7 +4,8 @@ ghost use Rattle.stage.specs.Floats.{plus_zero};
 ghost use Rattle.stage.specs.Layout.{pairs, flat, over};
 ghost use Rattle.stage.specs.Run.{Answer, answer_of, outs, end, strikes};
 
-/// A stage whose step answers what is put out for a sample and the state after it, or nothing where the sample is struck.
+// A stage whose step answers what is put out for a sample and the state after it, or nothing where the sample is
+// struck.
 pub trait Feedback<X, Y>: Copy {
     ghost answer: { Self → X → Answer Y Self };
 
@@ -12,14 +13,14 @@ pub trait Feedback<X, Y>: Copy {
         ensures { answer_of result ≡ answer self x };
 }
 
-/// The state after a run, and how many samples or pairs it struck.
+// The state after a run, and how many samples or pairs it struck.
 #[derive(Clone, Copy)]
 pub struct Ran<S> {
     pub state: S,
     pub struck: usize,
 }
 
-/// Mono samples in place. A struck one puts out 0.0 and leaves the state as it was.
+// Mono samples in place. A struck one puts out 0.0 and leaves the state as it was.
 pub fn run_mono<S: Feedback<f32, f32>>(mut state: S, data: &mut [f32]) -> Ran<S>
     ensures left { «data».new ≡ outs S.answer plus_zero state «data».old }
     ensures state { result.state ≡ end S.answer state «data».old }
@@ -41,7 +42,7 @@ pub fn run_mono<S: Feedback<f32, f32>>(mut state: S, data: &mut [f32]) -> Ran<S>
     Ran { state, struck }
 }
 
-/// Interleaved pairs in place, I first. An odd last element is no pair, and stays.
+// Interleaved pairs in place, I first. An odd last element is no pair, and stays.
 pub fn run_pairs<S: Feedback<(f32, f32), (f32, f32)>>(mut state: S, data: &mut [f32]) -> Ran<S>
     ensures left { «data».new ≡ over (flat (outs S.answer (plus_zero, plus_zero) state (pairs «data».old))) «data».old }
     ensures state { result.state ≡ end S.answer state (pairs «data».old) }
@@ -67,7 +68,8 @@ pub fn run_pairs<S: Feedback<(f32, f32), (f32, f32)>>(mut state: S, data: &mut [
     Ran { state, struck }
 }
 
-/// Interleaved pairs of `input`, one output each from the start of `output`, as far as there are pairs and room; the places behind stay.
+// Interleaved pairs of `input`, one output each from the start of `output`, as far as there are pairs and room; the
+// places behind stay.
 pub fn run_into<S: Feedback<(f32, f32), f32>>(
     mut state: S,
     input: &[f32],

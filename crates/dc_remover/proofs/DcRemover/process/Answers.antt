@@ -2,14 +2,13 @@
 use Prim.Native.Nat.{◌+◌, ◌-◌, ◌*◌, ◌%◌, min}
 use native.Mathlib.Numerals.{unary_clauses}
 use native.Mathlib.Omega.{arith}
-use mathlib.Core.Path.{◌≡◌, refl, ◌∙◌}
+use mathlib.Core.Path.{◌≡◌, ◌∙◌}
 use lib.ListN.{length, take, drop, length-drop}
 use lib.Seq.{length-take-le}
 use borrow.Author.Tests.{eqb-true, eq-eqb}
 use borrow.Author.Rules.{rules}
 use Rattle.stage.specs.Lent.{interleaved}
 use Rattle.stage.specs.Call.{gave}
-use Rattle.stage.specs.Refusal.{NONE}
 use Rattle.stage.proofs.Gives.{accepted_even, met_gives}
 use Rattle.stage.proofs.InParts.{interleaved_row, part_begins, part_few, part_turns, part_ends}
 use Rattle.dc_remover.specs.Process.{pair_stage}
@@ -24,16 +23,13 @@ block_pairs-ran-requires c =
     let end = c.min-end.result in
     let size = length-take-le (end - 32 * l.b) (drop (32 * l.b) l.«data») (rw length-drop (omega arith)) in
     let met = rw (c.within.ensures, c.even.ensures) at c.in_default.ensures in
-    let whole = eqb-true _ _ (accepted_even pair_stage interleaved c.args.self c.args.«data».now NONE met refl) in
+    let whole = eqb-true _ _ (accepted_even pair_stage interleaved c.args.self c.args.«data».now met) in
     eq-eqb (length (take (end - 32 * l.b) (drop (32 * l.b) l.«data»)) % 2) 0 (omega arith)
 
 pub overflow_add-struck : goal.overflow_add-struck
 overflow_add-struck c =
-    let l = c.loop-b in
-    let end = c.min-end.result in
     let ran = c.block_pairs-ran in
-    let size = length-take-le (end - 32 * l.b) (drop (32 * l.b) l.«data») (rw length-drop (omega arith)) in
-    let few = part_few pair_stage interleaved (interleaved_row pair_stage) l.self (take (end - 32 * l.b) (drop (32 * l.b) l.«data»)) (gave ran.result.state ran.result.struck ran.new.«data») ran.ensures in
+    let few = part_few pair_stage interleaved (interleaved_row pair_stage) c.loop-b.self _ (gave ran.result.state ran.result.struck ran.new.«data») ran.ensures in
     search rules
 
 pub loop-b-preserved : goal.loop-b-preserved
@@ -43,7 +39,7 @@ loop-b-preserved c =
     let ran = c.block_pairs-ran in
     let size = length-take-le (end - 32 * l.b) (drop (32 * l.b) l.«data») (rw length-drop (omega arith)) in
     let met = rw (c.within.ensures, c.even.ensures) at c.in_default.ensures in
-    let whole = eqb-true _ _ (accepted_even pair_stage interleaved c.args.self c.args.«data».now NONE met refl) in
+    let whole = eqb-true _ _ (accepted_even pair_stage interleaved c.args.self c.args.«data».now met) in
     let even : length (take (end - 32 * l.b) (drop (32 * l.b) l.«data»)) % 2 ≡ 0 = omega arith in
     let here : min (32 * l.b) (length c.args.«data».now) ≡ 32 * l.b = omega arith in
     let there : min (32 * (l.b + 1)) (length c.args.«data».now) ≡ end = omega arith in

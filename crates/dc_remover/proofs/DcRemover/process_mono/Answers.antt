@@ -3,7 +3,7 @@ use Prim.Native.Nat.{◌+◌, ◌-◌, ◌*◌, min}
 use native.Mathlib.Numerals.{unary_clauses}
 use native.Mathlib.Omega.{arith}
 use mathlib.Core.Path.{◌≡◌, refl, ◌∙◌}
-use lib.ListN.{length, take, drop, length-drop}
+use lib.ListN.{length, drop, length-drop}
 use lib.Seq.{length-take-le}
 use borrow.Author.Rules.{rules}
 use Rattle.stage.specs.Lent.{mono}
@@ -18,11 +18,8 @@ loop-b-init c = simp unary_clauses (part_begins mono_stage mono (mono_row mono_s
 
 pub overflow_add-struck : goal.overflow_add-struck
 overflow_add-struck c =
-    let l = c.loop-b in
-    let end = c.min-end.result in
     let ran = c.block_mono-ran in
-    let size = length-take-le (end - 16 * l.b) (drop (16 * l.b) l.«data») (rw length-drop (omega arith)) in
-    let few = part_few mono_stage mono (mono_row mono_stage) l.self (take (end - 16 * l.b) (drop (16 * l.b) l.«data»)) (gave ran.result.state ran.result.struck ran.new.«data») ran.ensures in
+    let few = part_few mono_stage mono (mono_row mono_stage) c.loop-b.self _ (gave ran.result.state ran.result.struck ran.new.«data») ran.ensures in
     search rules
 
 pub loop-b-preserved : goal.loop-b-preserved
