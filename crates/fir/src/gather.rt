@@ -30,8 +30,8 @@ impl Work<'_> {
 }
 
 // Writes `from` to a slice of as many places.
-// Stays: copy_from_slice becomes a call of memmove where the compiler can't tell the two apart, and the archive may call
-// memcpy and memset alone (tests/symbols.sh).
+// Stays: copy_from_slice becomes a call of memmove where the compiler can't tell that the two lie apart, and the
+// archive may call memcpy and memset alone (tests/symbols.sh).
 pub(crate) fn copy(from: &[f32], to: &mut [f32])
     requires { length to.old ≡ length from.now }
     ensures { to.new ≡ from.now }

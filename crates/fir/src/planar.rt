@@ -30,8 +30,8 @@ impl Planar<'_> {
         }
     }
 
-    // As many outputs as `output` has places, from output j on. Where the first window begins in the history, the samples are
-    // gathered first.
+    // As many outputs as `output` has places, from output j on. Where the first window begins in the history, the
+    // samples are gathered first.
     fn chunk(&self, z: &mut [f32], e: &mut [f32], j: usize, output: &mut [f32])
         requires few { (0 < length output.old) × (length output.old ≤ 64) × (j + length output.old ≤ self.now.work.count) }
         requires room { (128 * self.now.work.factor ≤ length z.old) × (80 * self.now.work.factor ≤ length e.old) }

@@ -2,7 +2,7 @@
 // a feedback stage with its runs, and what a block of samples is tried with.
 //
 // Document 01, "Five numbers", "Settings" and "Struck samples". The definitions stand in specs/, one
-// notion a file: Refusal, Numbers, Length, Settings, Floats and Run are those of the functions here. The others
+// notion a file: Refusal, Numbers, Length, Settings, Taps, Floats and Run are those of the functions here. The others
 // have no code of their own: Blocks, Drop and Layout say what a stage gives over a list of samples; Stage,
 // Lent, Call, Calls and Kept what its calls in place give; Into and IntoCalls what calls with an output
 // slice give; InTurn speaks of any calls in a row, Burst of bad samples. Cases.antt has worked values. The laws
