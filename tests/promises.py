@@ -37,25 +37,54 @@ def located(token):
 
 class Function:
     def __init__(self, name, module, contract):
-        self.name = name          # as a caller writes it: Agc::process, number::kinds::finite_f32, tl_convert
+        self.name = name          # as a caller writes it: Agc::process, stage::even, <f32 as Real>::finite, tl_convert
         self.module = module      # as a proof of another crate writes it: agc.Agc.process
-        self.contract = contract  # from the signature to the body
+        self.contract = contract  # from the signature to the body; of an `impl`'s method, the trait's and the ghost members
 
 
-# each `pub fn` of a file, with the `impl` that it stands in and its contract
+# a type as the checker writes it in the name of an `impl`: F32, Refusal, Tuple2F32F32
+def mangled(type_):
+    type_ = type_.strip()
+    if type_.startswith('('):
+        parts = [p for p in type_.strip('()').split(',') if p.strip()]
+        return 'Tuple%d%s' % (len(parts), ''.join(map(mangled, parts)))
+    head, _, rest = type_.partition('<')
+    arguments = re.findall(r'\([^)]*\)|\w+', rest)
+    return head[:1].upper() + head[1:] + ''.join(map(mangled, arguments))
+
+
+# the clauses of each method of each trait of the repository
+def clauses_of_traits():
+    found = {}
+    for crate in sorted(os.listdir('crates')):
+        for file in sorted(os.listdir('crates/%s/src' % crate)):
+            for trait, body in re.findall(r'^pub trait (\w+)[^\n]*\{\n(.*?)^\}', read('crates/%s/src/%s' % (crate, file)), re.M | re.S):
+                for name, clauses in re.findall(r'^    fn (\w+)(.*?);$', body, re.M | re.S):
+                    found[trait, name] = clauses
+    return found
+
+
+# each `pub fn` of a file and each method of a trait's `impl`, with the `impl` that it stands in and its contract
 def declared(text):
-    impl = None
+    impl = trait = None
+    opened_at = 0
     lines = text.split('\n')
     for i, line in enumerate(lines):
-        opened = re.match(r'impl (\w+)', line)
-        impl = opened.group(1) if opened else None if line.startswith('}') else impl
-        found = re.match(r'( *)pub (?:extern "C" )?fn (\w+)', line)
-        if found:
+        opened = re.match(r'impl(?:<[^>]*>)? (?:(.+) for )?(\w+)', line)
+        if opened:
+            trait, impl, opened_at = opened.group(1), opened.group(2), i
+        elif line.startswith('}'):
+            impl = trait = None
+        found = re.match(r'( *)%sfn (\w+)' % ('' if trait else r'pub (?:extern "C" )?'), line)
+        if found and trait:
+            ghosts = [g for g in lines[opened_at:i] if g.startswith('    ghost ')]
+            yield found.group(2), impl, trait, '\n'.join(ghosts)
+        elif found:
             end = next(j for j in range(i, len(lines)) if lines[j].startswith(found.group(1) + '{'))
-            yield found.group(2), impl, '\n'.join(lines[i:end])
+            yield found.group(2), impl, None, '\n'.join(lines[i:end])
 
 
-def public_functions(crate):
+def public_functions(crate, of_traits):
     src = 'crates/%s/src' % crate
     root = read(src + '/lib.rt')
     modules = set(re.findall(r'^pub mod (\w+);', root, re.M))
@@ -63,10 +92,17 @@ def public_functions(crate):
     for group in re.findall(r'^pub use (?:\w+::)*\{([^}]*)\};', root, re.M):
         passed_on |= set(re.findall(r'\w+', group))
     types = set(re.findall(r'^pub (?:struct|enum) (\w+)', root, re.M))
+    inner = set(re.findall(r'^(?:pub\(crate\) )?trait (\w+)', ''.join(read(src + '/' + f) for f in os.listdir(src)), re.M))
     for file in sorted(os.listdir(src)):
         here = file[:-len('.rt')]
-        for name, impl, contract in declared(read(src + '/' + file)):
-            if impl in types:
+        for name, impl, trait, contract in declared(read(src + '/' + file)):
+            if trait:
+                if trait.partition('<')[0] not in inner:
+                    place = crate if here == 'lib' else crate + '.' + here
+                    module = '%s.%s%s.%s' % (place, mangled(impl), mangled(trait), name)
+                    clauses = of_traits.get((trait.partition('<')[0], name), '')
+                    yield Function('<%s as %s>::%s' % (impl, trait, name), module, clauses + '\nensures, in the words of\n' + contract)
+            elif impl in types:
                 yield Function(impl + '::' + name, '%s.%s.%s' % (crate, impl, name), contract)
             elif impl is None and name.startswith('tl_'):
                 yield Function(name, '%s.%s.%s' % (crate, here, name), contract)
@@ -91,7 +127,9 @@ def only_theorems():
         use = r'^use Rattle\.(\w+)\.%s((?:\.\w+)?) as ([\w-]+)$'
         proofs = {a: crate + below for crate, below, a in re.findall(use % 'proofs', text, re.M)}
         says = {a: crate + below for crate, below, a in re.findall(use % r'specs\.contracts', text, re.M)}
-        for theorem, ended, learnt in re.findall(r'^pub ([\w-]+) : NoSecond (\S+)\.ended (\S+)\.Reads\.Learnt$', text, re.M):
+        # of a function over any type, the theorem begins with what the type brings
+        said = r'^pub ([\w-]+) : (?:\([^)]*\) → )?NoSecond \(?(\S+)\.ended(?: [^)]*\))? \(?(\S+)\.Reads\.Learnt(?: [^)]*\))?$'
+        for theorem, ended, learnt in re.findall(said, text, re.M):
             head, _, rest = ended.partition('.')
             of, _, same = learnt.partition('.')
             if rest == same and head in says and says[head] == proofs.get(of):
@@ -106,7 +144,7 @@ def declares(path, name):
         return False
     word = re.escape(name)
     if path.endswith('.rt'):
-        return re.search(r'\b(fn|struct|enum) %s\b' % word, read(path))
+        return re.search(r'\b(fn|struct|enum|trait) %s\b' % word, read(path))
     return re.search(r'^\s*(abbrev |unfoldable )?(pub )?(%s :|(record|data) %s\b)' % (word, word), read(path), re.M)
 
 
@@ -173,7 +211,7 @@ def call_faults(header, cells, functions, theorems, listed):
     if given[0] not in functions:
         return
     f = functions[given[0]]
-    if f.contract not in read(located(tokens(column['Contract'])[0]) or PAGE):
+    if f.contract.rpartition('in the words of\n')[2] not in read(located(tokens(column['Contract'])[0]) or PAGE):
         yield '%s does not stand in the file given' % f.name
     for name, _ in names_of(column['Definition'], []):
         if not names(f.contract.partition('ensures')[2], name):
@@ -204,7 +242,8 @@ def faults(functions):
 
 
 def checked():
-    functions = {f.name: f for crate in libraries() for f in public_functions(crate)}
+    of_traits = clauses_of_traits()
+    functions = {f.name: f for crate in libraries() for f in public_functions(crate, of_traits)}
     return functions, list(faults(functions))
 
 

@@ -10,11 +10,11 @@ use Rattle.stage.proofs.Stays.{Keeps, kept_by_test, made_by_test}
 use Rattle.agc.specs.declared.AgcDone.{AgcDone}
 use Rattle.agc.specs.State.{setting_met, answered, fresh, zeros, made}
 use Rattle.agc.specs.Gain.{magnitude_of, gain_after}
-use Rattle.agc.specs.Step.{agc_step}
+use Rattle.agc.specs.Step.{agc_answer}
 use Rattle.agc.specs.Process.{agc_stage}
 
 pub agc_keeps : Keeps agc_stage
-unfolding agc_step
+unfolding agc_answer
 agc_keeps s p o t h e =
     let gain = gain_after s (magnitude_of p.0 p.1) in
     let out : Float × Float = (mul binary32 p.0 gain, mul binary32 p.1 gain) in

@@ -14,7 +14,7 @@ use Rattle.stage.proofs.Dropped.{call_dropped}
 use Rattle.stage.proofs.NotFinite.{mul_not_finite, half_not_finite}
 use Rattle.agc.specs.declared.Agc.{Agc}
 use Rattle.agc.specs.Gain.{magnitude_of, gain_after}
-use Rattle.agc.specs.Step.{agc_step, agc_answer}
+use Rattle.agc.specs.Step.{agc_answer}
 use Rattle.agc.specs.Process.{agc_stage, process}
 
 pub dropped : (s : Agc) (xs : List Float) → (process s xs).refusal ≡ NONE
@@ -23,7 +23,7 @@ dropped s xs e = call_dropped agc_stage interleaved interleaved_lawful s xs e
 
 -- from whatever state
 pub not_finite_struck : (s : Agc) (p : Float × Float) → both_finite p.0 p.1 ≡ false → agc_answer s p ≡ struck
-unfolding agc_step
+unfolding agc_answer
 not_finite_struck s p h =
     let gain = gain_after s (magnitude_of p.0 p.1) in
     rw (half_not_finite p.0 p.1 _ _ (mul_not_finite binary32 p.0 gain) (mul_not_finite binary32 p.1 gain) h)

@@ -9,7 +9,7 @@ use Rattle.stage.specs.Call.{Given}
 use Rattle.agc.specs.declared.Agc.{Agc}
 use Rattle.agc.specs.State.{answered, fresh, zeros, made}
 use Rattle.agc.specs.Gain.{gain_after}
-use Rattle.agc.specs.Step.{agc_step}
+use Rattle.agc.specs.Step.{agc_answer}
 use Rattle.agc.specs.Process.{process}
 
 -- target 1, attack 0.5, decay 0.25
@@ -21,12 +21,12 @@ gives number s n left = record { refusal = number; state = s; struck = n; left =
 
 -- (3, 4) is louder than the target: the gain falls by attack from 1 to about 0.6, and the pair becomes about (1.8, 2.4)
 pub loud_pair : process (state one) (single 0x4040_0000 ∷ single 0x4080_0000 ∷ []) ≡ gives 0 (state (single 0x3f19_9999)) 0 (single 0x3fe6_6666 ∷ single 0x4019_9999 ∷ [])
-unfolding agc_step gain_after rooted add sub mul div lt le of_bits
+unfolding agc_answer gain_after rooted add sub mul div lt le of_bits
 loud_pair = refl
 
 -- (0, 0.25) is quieter: the gain rises by decay from 1 to about 1.75
 pub quiet_pair : process (state one) (plus_zero ∷ quarter ∷ []) ≡ gives 0 (state (single 0x3fdf_ffde)) 0 (plus_zero ∷ single 0x3edf_ffde ∷ [])
-unfolding agc_step gain_after rooted add sub mul div lt le of_bits
+unfolding agc_answer gain_after rooted add sub mul div lt le of_bits
 quiet_pair = refl
 
 -- ---- the ends of the rules
@@ -70,7 +70,7 @@ over_the_limit xs e = rw e
 
 -- (1e30, 0) has an infinite magnitude, a gain of 0.5 all the same, and is not struck
 pub infinite_magnitude : process (state one) (single 0x7149_f2ca ∷ plus_zero ∷ []) ≡ gives 0 (state half) 0 (single 0x70c9_f2ca ∷ plus_zero ∷ [])
-unfolding agc_step gain_after rooted add sub mul div lt le of_bits
+unfolding agc_answer gain_after rooted add sub mul div lt le of_bits
 infinite_magnitude = refl
 
 -- silence with a target of 3e38 overflows the gain, and is struck
@@ -78,10 +78,10 @@ abbrev high : Agc
 high = record { gain = one; target = huge; attack = half; decay = quarter }
 
 pub finite_pair_struck : process high (plus_zero ∷ plus_zero ∷ []) ≡ gives 0 high 1 (plus_zero ∷ plus_zero ∷ [])
-unfolding agc_step gain_after rooted add sub mul div lt le of_bits
+unfolding agc_answer gain_after rooted add sub mul div lt le of_bits
 finite_pair_struck = refl
 
 -- one bad half strikes the pair
 pub bad_half : process (state one) (one ∷ nan ∷ []) ≡ gives 0 (state one) 1 (plus_zero ∷ plus_zero ∷ [])
-unfolding agc_step gain_after rooted add sub mul div lt le of_bits
+unfolding agc_answer gain_after rooted add sub mul div lt le of_bits
 bad_half = refl

@@ -9,15 +9,12 @@ use Rattle.agc.specs.declared.Agc.{Agc}
 use Rattle.agc.specs.Gain.{magnitude_of, gain_after}
 
 -- with this gain: struck, unless each float that is put out or stored is finite
-abbrev pub with_gain : Agc → Float → Float → Float → Answer (Float × Float) Agc
-with_gain s i q gain =
-    cond (both_finite (mul binary32 i gain) (mul binary32 q gain) && finite gain)
-    (kept (mul binary32 i gain, mul binary32 q gain) (record { gain = gain; target = s.target; attack = s.attack; decay = s.decay }))
+abbrev pub with_gain : Agc → Float × Float → Float → Answer (Float × Float) Agc
+with_gain s p gain =
+    cond (both_finite (mul binary32 p.0 gain) (mul binary32 p.1 gain) && finite gain)
+    (kept (mul binary32 p.0 gain, mul binary32 p.1 gain) (record { gain = gain; target = s.target; attack = s.attack; decay = s.decay }))
     struck
 
-unfoldable pub agc_step : Agc → Float → Float → Answer (Float × Float) Agc
-agc_step s i q = with_gain s i q (gain_after s (magnitude_of i q))
-
--- the step of a run, from a pair
-abbrev pub agc_answer : Agc → Float × Float → Answer (Float × Float) Agc
-agc_answer s p = agc_step s p.0 p.1
+-- the step of a run
+unfoldable pub agc_answer : Agc → Float × Float → Answer (Float × Float) Agc
+agc_answer s p = with_gain s p (gain_after s (magnitude_of p.0 p.1))

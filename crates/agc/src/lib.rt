@@ -31,6 +31,7 @@ pub struct Agc {
 
 // What every call answers: the number of the refusal, 0 for none; the state for the next call, which is
 // the one handed in where this one is refused; and how many pairs were struck.
+// Stays: C reads this record (`tl_agc_process`), so it has no type parameter for the state, and `refusal` is a number.
 #[repr(C)]
 #[derive(Clone, Copy)]
 pub struct AgcDone {

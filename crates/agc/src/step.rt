@@ -8,6 +8,7 @@ use number::kinds::Real;
 use stage::Feedback;
 
 // The step of `process`: I and Q are one pair.
+#[tactic(auto, unfolding(crate::specs::Step::agc_answer))]
 impl Feedback<(f32, f32), (f32, f32)> for Agc {
     ghost answer = { agc_answer };
 
@@ -15,11 +16,8 @@ impl Feedback<(f32, f32), (f32, f32)> for Agc {
         let gain = gain_after(self, magnitude(i, q));
         let out_i = i * gain;
         let out_q = q * gain;
-        if stage::both_finite(out_i, out_q) & gain.finite() {
-            Some(((out_i, out_q), Agc { gain, ..self }))
-        } else {
-            None
-        }
+        let kept = stage::both_finite(out_i, out_q) & gain.finite();
+        kept.then_some(((out_i, out_q), Agc { gain, ..self }))
     }
 }
 
@@ -30,6 +28,7 @@ fn magnitude(i: f32, q: f32) -> f32
 }
 
 // The gain after a pair of this magnitude.
+#[tactic(auto, unfolding(crate::specs::Gain::gain_after))]
 fn gain_after(s: Agc, mag: f32) -> f32
     ensures { result ≡ gain_after s mag }
 {

@@ -6,9 +6,8 @@ use lib.Ieee.Scale.{finite}
 use Rattle.stage.specs.Floats.{both_finite}
 use Rattle.stage.specs.Stage.{Sound}
 use Rattle.stage.proofs.Stays.{Keeps, kept_by_test}
-use Rattle.am.specs.declared.step.AmStep.TheVariants as am-step
 use Rattle.am.specs.State.{fresh}
-use Rattle.am.specs.Step.{size_of, mean_after, envelope, passed, am_step, am_means}
+use Rattle.am.specs.Step.{size_of, mean_after, envelope, passed, am_step}
 use Rattle.am.specs.Process.{am_stage}
 
 pub am_keeps : Keeps am_stage
@@ -18,7 +17,7 @@ am_keeps s p o t h e =
     let mean = mean_after s size in
     let state = passed s size in
     let out = sub binary32 (envelope s size) state in
-    kept_by_test (Sound am_stage) (am_means s) (both_finite mean state && finite out) (am-step.Kept out mean state) am-step.Struck out _ refl refl
+    kept_by_test (Sound am_stage) (both_finite mean state && finite out) out _
     (λ f. record { setting = h.setting; state = ((and-eq-true_iff (both_finite mean state) (finite out)).0 f).0 }) o t e
 
 pub fresh_sound : Sound am_stage fresh.state

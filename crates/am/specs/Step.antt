@@ -7,8 +7,6 @@ use Rattle.root.specs.Root.{rooted}
 use Rattle.stage.specs.Floats.{plus_zero, both_finite, blend_of}
 use Rattle.stage.specs.Run.{Answer, struck, kept}
 use Rattle.am.specs.declared.AmDemodulator.{AmDemodulator}
-use Rattle.am.specs.declared.step.AmStep.{AmStep}
-use Rattle.am.specs.declared.step.AmStep.TheVariants as am-step
 
 -- the magnitude of a pair (I, Q): the root of I x I + Q x Q, which looks at the pair alone
 unfoldable pub size_of : Float × Float → Float
@@ -27,19 +25,16 @@ unfoldable pub passed : AmDemodulator → Float → Float
 passed s size = blend_of s.hp_alpha s.hp_state (envelope s size)
 
 -- struck where a float that would be stored or put out is not finite
-abbrev pub keep_am : Float → Float → Float → AmStep
-keep_am out mean state = cond (both_finite mean state && finite out) (am-step.Kept out mean state) am-step.Struck
+abbrev pub keep_am : AmDemodulator → Float → Float → Float → Answer Float AmDemodulator
+keep_am s out mean state =
+    cond (both_finite mean state && finite out)
+    (kept out (record { dc_alpha = s.dc_alpha; dc_mean = mean; hp_alpha = s.hp_alpha; hp_state = state }))
+    struck
 
-unfoldable pub am_step : AmDemodulator → Float → AmStep
+unfoldable pub am_step : AmDemodulator → Float → Answer Float AmDemodulator
 unfolding mean_after passed
-am_step s size = keep_am (sub binary32 (envelope s size) (passed s size)) (mean_after s size) (passed s size)
-
--- what the cases of a step mean
-abbrev pub am_means : AmDemodulator → AmStep → Answer Float AmDemodulator
-am_means s am-step.Struck = struck
-am_means s (am-step.Kept out mean state) =
-    kept out (record { dc_alpha = s.dc_alpha; dc_mean = mean; hp_alpha = s.hp_alpha; hp_state = state })
+am_step s size = keep_am s (sub binary32 (envelope s size) (passed s size)) (mean_after s size) (passed s size)
 
 -- the step of a run, from a pair
 abbrev pub am_answer : AmDemodulator → Float × Float → Answer Float AmDemodulator
-am_answer s p = am_means s (am_step s (size_of p))
+am_answer s p = am_step s (size_of p)

@@ -6,14 +6,15 @@
 // public function here has a `requires`.
 #![tactic(auto)]
 
-mod rules;
 mod step;
 
 ghost use Rattle.std.specs.Prelude.{◌≡◌};
+ghost use Rattle.stage.specs.Into.{number_into};
+ghost use Rattle.stage.specs.Numbers.{number_of};
 ghost use Rattle.am.specs.State.{answered, fresh};
-ghost use Rattle.am.specs.Process.{put, process_into};
+ghost use Rattle.am.specs.Process.{put, am_stage, process_into};
 
-use step::AmStep;
+use stage::Refusal;
 
 #[repr(C)]
 #[derive(Clone, Copy)]
@@ -24,6 +25,7 @@ pub struct AmDemodulator {
     pub hp_state: f32,
 }
 
+// Stays: C reads this record (`tl_am_process_into`), so it has no type parameter for the state, and `refusal` is a number.
 #[repr(C)]
 #[derive(Clone, Copy)]
 pub struct AmDone {
@@ -53,30 +55,27 @@ impl AmDemodulator {
     pub fn process_into(mut self, input: &[f32], output: &mut [f32]) -> AmDone
         ensures { put result output.new ≡ process_into self input.now output.old }
     {
-        let refusal = rules::processing(self, input.len(), output.len());
-        if refusal != stage::NONE {
-            return self.answer(refusal, 0, 0);
+        if let Err(refusal) = self.demands(input.len(), output.len()) {
+            return self.answer(u32::from(refusal), 0, 0);
         }
-        let mut struck: usize = 0;
-        let mut i: usize = 0;
-        let mut k: usize = 0;
-        while i < input.len() {
-            let size = step::magnitude(input[i], input[i + 1]);
-            match step::step(self, size) {
-                AmStep::Struck => {
-                    output[k] = 0.0;
-                    struck += 1;
-                }
-                AmStep::Kept(out, mean, state) => {
-                    output[k] = out;
-                    self.dc_mean = mean;
-                    self.hp_state = state;
-                }
-            }
-            i += 2;
-            k += 1;
-        }
-        self.answer(stage::NONE, input.len() / 2, struck)
+        let ran = stage::run_into(self, input, output);
+        self = ran.state;
+        self.answer(stage::NONE, input.len() / 2, ran.struck)
+    }
+
+    // The demands of `process_into` on this state, on an input of n elements and on an output of `room` places.
+    fn demands(self, n: usize, room: usize) -> Result<(), Refusal>
+        ensures { number_of result ≡ number_into am_stage self n room }
+    {
+        let setting = stage::in_unit(self.dc_alpha) & stage::in_unit(self.hp_alpha);
+        let state = stage::both_finite(self.dc_mean, self.hp_state);
+        stage::demands(
+            setting,
+            state,
+            stage::within(n),
+            stage::even(n),
+            n / 2 <= room,
+        )
     }
 
     fn answer(self, refusal: u32, count: usize, struck: usize) -> AmDone

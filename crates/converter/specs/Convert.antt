@@ -23,11 +23,15 @@ negated_of s = div binary32 (neg (sub binary32 (of_int binary32 (pos s)) middle)
 abbrev pub samples : List ℕ → List Float
 samples src = map sample_of src
 
--- I's value and Q's negated, pair by pair
+-- I's value and what `of_q` makes of Q, pair by pair
+abbrev pub in_pairs : (ℕ → Float) → List ℕ → List Float
+in_pairs of_q [] = []
+in_pairs of_q (i ∷ []) = []
+in_pairs of_q (i ∷ q ∷ r) = sample_of i ∷ of_q q ∷ in_pairs of_q r
+
+-- I's value and Q's negated
 abbrev pub inverted : List ℕ → List Float
-inverted [] = []
-inverted (i ∷ []) = []
-inverted (i ∷ q ∷ r) = sample_of i ∷ negated_of q ∷ inverted r
+inverted src = in_pairs negated_of src
 
 -- for n bytes and m places: LIMIT where n is too long, LENGTH where n is odd or not m
 abbrev pub refusal_of : ℕ → ℕ → ℕ

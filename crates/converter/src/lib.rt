@@ -6,36 +6,44 @@
 // is written. No public function here has a `requires`.
 #![tactic(auto)]
 
-ghost use Rattle.std.specs.Prelude.{◌≡◌, ◌≤◌, ◌%◌, length};
-ghost use Rattle.converter.specs.Convert.{sample_of, negated_of, samples, inverted, refusal_of, converted};
+ghost use Rattle.std.specs.Prelude.{◌≡◌, ◌%◌, length};
+ghost use Rattle.stage.specs.Numbers.{number_of};
+ghost use Rattle.converter.specs.Convert.{sample_of, negated_of, samples, in_pairs, inverted, refusal_of, converted};
+ghost use Rattle.converter.specs.Gives.{Gives};
+
+use stage::Refusal;
 
 // Writes every byte's value to the same place of `dst`. Answers the number of the refusal, 0 for none.
 pub fn convert(src: &[u8], dst: &mut [f32]) -> u32
     ensures { (result, dst.new) ≡ converted samples src.now dst.old }
 {
-    let number = refusal(src.len(), dst.len());
-    if number == stage::NONE {
-        fill(src, dst);
-    }
-    number
+    convert_by(src, dst, sample)
 }
 
 // The same with every second value, Q, negated. Answers the number of the refusal, 0 for none.
 pub fn convert_inverted(src: &[u8], dst: &mut [f32]) -> u32
     ensures { (result, dst.new) ≡ converted inverted src.now dst.old }
 {
-    let refused = refusal(src.len(), dst.len());
-    if refused == stage::NONE {
-        fill_inverted(src, dst);
-    }
-    refused
+    convert_by(src, dst, negated)
 }
 
-// The number for a source of n bytes and a target of m floats.
-fn refusal(n: usize, m: usize) -> u32
-    ensures { result ≡ refusal_of n m }
+// Either of them: `of_q` says what becomes of Q.
+fn convert_by<F: Fn(u8) -> f32>(src: &[u8], dst: &mut [f32], of_q: F) -> u32
+    requires { F.IsAlwaysCallable of_q }
+    ensures { (f : _) → Gives (F.post of_q) f → (result, dst.new) ≡ converted (in_pairs f) src.now dst.old }
 {
-    stage::refusal(
+    if let Err(refusal) = demands(src.len(), dst.len()) {
+        return u32::from(refusal);
+    }
+    fill(src, dst, of_q);
+    stage::NONE
+}
+
+// The demands on a source of n bytes and a target of m floats.
+fn demands(n: usize, m: usize) -> Result<(), Refusal>
+    ensures { number_of result ≡ refusal_of n m }
+{
+    stage::demands(
         true,
         true,
         stage::within(n),
@@ -44,26 +52,15 @@ fn refusal(n: usize, m: usize) -> u32
     )
 }
 
-fn fill(src: &[u8], dst: &mut [f32])
-    requires { length dst.old ≡ length src.now }
-    ensures { dst.new ≡ samples src.now }
+// Writes I's value, and what becomes of Q, pair by pair.
+fn fill<F: Fn(u8) -> f32>(src: &[u8], dst: &mut [f32], of_q: F)
+    requires lengths { (length dst.old ≡ length src.now) × (length src.now % 2 ≡ 0) }
+    requires callable { F.IsAlwaysCallable of_q }
+    ensures { (f : _) → Gives (F.post of_q) f → dst.new ≡ in_pairs f src.now }
 {
-    let mut i = 0;
-    while i < src.len() {
-        dst[i] = sample(src[i]);
-        i += 1;
-    }
-}
-
-fn fill_inverted(src: &[u8], dst: &mut [f32])
-    requires { (length dst.old ≡ length src.now) × (length src.now % 2 ≡ 0) }
-    ensures { dst.new ≡ inverted src.now }
-{
-    let mut i = 0;
-    while i < src.len() {
-        dst[i] = sample(src[i]);
-        dst[i + 1] = negated(src[i + 1]);
-        i += 2;
+    for k in 0..src.len() / 2 {
+        dst[2 * k] = sample(src[2 * k]);
+        dst[2 * k + 1] = of_q(src[2 * k + 1]);
     }
 }
 

@@ -14,7 +14,7 @@ use Rattle.stage.proofs.Lents.{mono_lawful, interleaved_lawful, split_lawful}
 use Rattle.stage.proofs.Dropped.{call_dropped}
 use Rattle.stage.proofs.NotFinite.{sub_not_finite, half_not_finite}
 use Rattle.dc_remover.specs.declared.DcRemover.{DcRemover}
-use Rattle.dc_remover.specs.Step.{mean_after, mono_step, mono_answer, pair_step, pair_answer}
+use Rattle.dc_remover.specs.Step.{mean_after, less_mean, mono_answer, pair_answer}
 use Rattle.dc_remover.specs.Process.{mono_stage, pair_stage, process_mono, process, process_split}
 
 pub mono_dropped : (s : DcRemover) (xs : List Float) → (process_mono s xs).refusal ≡ NONE
@@ -32,13 +32,13 @@ split_dropped s b e = call_dropped pair_stage split split_lawful s b e
 -- ---- a NaN or an infinity is struck, from whatever state
 
 pub not_finite_struck : (s : DcRemover) (x : Float) → finite x ≡ false → mono_answer s x ≡ struck
-unfolding mono_step
+unfolding mono_answer
 not_finite_struck s x h = rw (sub_not_finite binary32 x (mean_after s.alpha s.avg_i x) h)
 
 -- and so is a pair of which either half is one
 pub not_finite_pair_struck : (s : DcRemover) (p : Float × Float) → both_finite p.0 p.1 ≡ false → pair_answer s p ≡ struck
-unfolding pair_step
+unfolding pair_answer
 not_finite_pair_struck s p h =
     let i = mean_after s.alpha s.avg_i p.0 in
     let q = mean_after s.alpha s.avg_q p.1 in
-    rw (half_not_finite p.0 p.1 _ _ (sub_not_finite binary32 p.0 i) (sub_not_finite binary32 p.1 q) h)
+    rw (half_not_finite p.0 p.1 (less_mean s.alpha s.avg_i p.0) (less_mean s.alpha s.avg_q p.1) (sub_not_finite binary32 p.0 i) (sub_not_finite binary32 p.1 q) h)

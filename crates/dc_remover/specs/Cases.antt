@@ -7,7 +7,7 @@ use Rattle.stage.specs.Named.{single, minus_zero, quarter, half, above_one, grea
 use Rattle.stage.specs.Call.{Given}
 use Rattle.dc_remover.specs.declared.DcRemover.{DcRemover}
 use Rattle.dc_remover.specs.State.{answered, made}
-use Rattle.dc_remover.specs.Step.{mono_step, pair_step}
+use Rattle.dc_remover.specs.Step.{mono_answer, pair_answer}
 use Rattle.dc_remover.specs.Process.{process_mono, process, process_split}
 
 abbrev three_quarters : Float
@@ -29,12 +29,12 @@ gives number s n left = record { refusal = number; state = s; struck = n; left =
 
 -- case 8: mono, alpha 0.5, input 1, 1: 0.5, 0.25
 pub case_8 : process_mono fresh (one ∷ one ∷ []) ≡ gives 0 (state three_quarters plus_zero half) 0 (half ∷ quarter ∷ [])
-unfolding mono_step le add sub mul of_bits
+unfolding mono_answer le add sub mul of_bits
 case_8 = refl
 
 -- case 9: input 1, NaN, 1: 0.5, 0, 0.25, one struck
 pub case_9 : process_mono fresh (one ∷ nan ∷ one ∷ []) ≡ gives 0 (state three_quarters plus_zero half) 1 (half ∷ plus_zero ∷ quarter ∷ [])
-unfolding mono_step le add sub mul of_bits
+unfolding mono_answer le add sub mul of_bits
 case_9 = refl
 
 -- ---- the ends of the rules
@@ -75,17 +75,17 @@ unfolding le of_bits
 odd_length = refl
 
 pub shorter_slice : process_split fresh (one ∷ [], one ∷ nan ∷ []) ≡ gives 0 (state half half half) 0 (half ∷ [], half ∷ nan ∷ [])
-unfolding pair_step le add sub mul of_bits
+unfolding pair_answer le add sub mul of_bits
 shorter_slice = refl
 
 -- ---- who is struck
 
 -- one bad half strikes the pair: both outputs 0, both means as they were
 pub bad_half : process fresh (one ∷ nan ∷ []) ≡ gives 0 fresh 1 (plus_zero ∷ plus_zero ∷ [])
-unfolding pair_step le add sub mul of_bits
+unfolding pair_answer le add sub mul of_bits
 bad_half = refl
 
 -- a finite sample is struck where the output overflows
 pub finite_sample_struck : process_mono (state least plus_zero plus_zero) (greatest ∷ []) ≡ gives 0 (state least plus_zero plus_zero) 1 (plus_zero ∷ [])
-unfolding mono_step le add sub mul of_bits
+unfolding mono_answer le add sub mul of_bits
 finite_sample_struck = refl

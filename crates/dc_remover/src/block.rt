@@ -1,65 +1,69 @@
-// A block of each call: tried first, and worked in the plain form where something in it is struck, or where it is
+// A block of each call: tried first, and worked step by step where something in it is struck, or where it is
 // the last and shorter. What is lent stays as it is until the trial has shown that none is struck. I and Q in two
 // slices are put together first, so that they need no forms of their own.
 ghost use Rattle.std.specs.Prelude.{◌≡◌, true, ◌≤◌, length};
 ghost use Rattle.stage.specs.Length.{is_even};
 ghost use Rattle.stage.specs.Lent.{mono, interleaved, split};
-ghost use Rattle.stage.specs.Call.{ran};
-ghost use Rattle.dc_remover.specs.Process.{given, mono_stage, pair_stage};
+ghost use Rattle.stage.specs.Call.{gave, ran};
+ghost use Rattle.dc_remover.specs.Process.{mono_stage, pair_stage};
 
-use crate::{DcRemover, DcRemoverDone};
+use crate::DcRemover;
+use stage::Ran;
 
 impl DcRemover {
     // Mono samples, 16 at a time.
-    pub(crate) fn block_mono(self, data: &mut [f32]) -> DcRemoverDone
-        ensures { given result «data».new ≡ ran mono_stage mono self «data».old }
+    pub(crate) fn block_mono(self, data: &mut [f32]) -> Ran<DcRemover>
+        ensures { gave result.state result.struck «data».new ≡ ran mono_stage mono self «data».old }
     {
-        if data.len() != 16 {
-            return self.plain_mono(data);
+        if data.len() == 16 {
+            let mut z = [0.0; 16];
+            let state = self.try_mono(data, &mut z);
+            if stage::all_finite(&z) {
+                stage::copy(&z, data);
+                return Ran { state, struck: 0 };
+            }
         }
-        let mut z: [f32; 16] = [0.0; 16];
-        let after = self.try_mono(&data[..], &mut z[..]);
-        if !stage::all_finite(&z[..]) {
-            return self.plain_mono(data);
-        }
-        stage::copy(&z[..], data);
-        after.answer(stage::NONE, 0)
+        stage::run_mono(self, data)
     }
 
     // Whole pairs, 16 at a time. The state comes by its fields, in registers: a struct would be stored field by field and
     // both means read back at once, and such a read waits until the stores are through.
-    pub(crate) fn block_pairs(alpha: f32, avg_i: f32, avg_q: f32, data: &mut [f32]) -> DcRemoverDone
+    // Stays: with `self` in their place pairs take 2 % longer and the split call 7 %, below its bar of 0.95 (measured).
+    pub(crate) fn block_pairs(
+        alpha: f32,
+        avg_i: f32,
+        avg_q: f32,
+        data: &mut [f32],
+    ) -> Ran<DcRemover>
         requires { is_even (length «data».old) ≡ true }
-        ensures { given result «data».new ≡ ran pair_stage interleaved (record { avg_i = avg_i; avg_q = avg_q; alpha = alpha }) «data».old }
+        ensures { gave result.state result.struck «data».new ≡ ran pair_stage interleaved (record { avg_i = avg_i; avg_q = avg_q; alpha = alpha }) «data».old }
     {
-        let state = DcRemover {
+        let before = DcRemover {
             avg_i,
             avg_q,
             alpha,
         };
-        if data.len() != 32 {
-            return state.plain_pairs(data);
+        if data.len() == 32 {
+            let mut z = [0.0; 32];
+            let state = before.try_pairs(data, &mut z);
+            if stage::all_finite(&z) {
+                stage::copy(&z, data);
+                return Ran { state, struck: 0 };
+            }
         }
-        let mut z: [f32; 32] = [0.0; 32];
-        let after = state.try_pairs(&data[..], &mut z[..]);
-        if !stage::all_finite(&z[..]) {
-            return state.plain_pairs(data);
-        }
-        stage::copy(&z[..], data);
-        after.answer(stage::NONE, 0)
+        stage::run_pairs(before, data)
     }
 
     // As many I as Q, at most 16 of each: put together, worked as pairs, and taken apart again.
-    pub(crate) fn block_split(self, i: &mut [f32], q: &mut [f32]) -> DcRemoverDone
+    pub(crate) fn block_split(self, i: &mut [f32], q: &mut [f32]) -> Ran<DcRemover>
         requires { (length q.old ≡ length i.old) × (length i.old ≤ 16) }
-        ensures { given result (i.new, q.new) ≡ ran pair_stage split self (i.old, q.old) }
+        ensures { gave result.state result.struck (i.new, q.new) ≡ ran pair_stage split self (i.old, q.old) }
     {
-        let mut z: [f32; 32] = [0.0; 32];
-        let n = 2 * i.len();
-        let pairs = &mut z[..n];
-        halves::join(&i[..], &q[..], pairs);
-        let done = DcRemover::block_pairs(self.alpha, self.avg_i, self.avg_q, pairs);
-        halves::split(&pairs[..], i, q);
-        done
+        let mut z = [0.0; 32];
+        let pairs = &mut z[..2 * i.len()];
+        halves::join(i, q, pairs);
+        let ran = DcRemover::block_pairs(self.alpha, self.avg_i, self.avg_q, pairs);
+        halves::split(pairs, i, q);
+        ran
     }
 }

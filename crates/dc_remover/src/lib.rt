@@ -5,24 +5,26 @@
 // state, and a fresh one, `specs/Process.antt` what the three calls give, accepted or refused,
 // `specs/Cases.antt` the marked cases 8 and 9. proofs/ shows that cutting a stream into calls and dropping
 // the struck samples change nothing else, and that no call makes a state that a later one refuses. The calls
-// work block by block (`block.rt`): a block is tried without a test at each sample (`trial.rt`), and worked in
-// the plain form (`plain.rt`) where a sample of it is struck. I and Q in two slices are put together, worked as
+// work block by block (`block.rt`): a block is tried without a test at each sample (`trial.rt`), and worked
+// step by step where a sample of it is struck. I and Q in two slices are put together, worked as
 // pairs, and taken apart again. No public function here has a `requires`.
 #![tactic(auto)]
 
 mod block;
-mod plain;
 mod process;
 mod step;
 mod trial;
 
 ghost use Rattle.std.specs.Prelude.{◌≡◌, true};
 ghost use Rattle.stage.specs.Refusal.{refusal_no};
+ghost use Rattle.stage.specs.Numbers.{number_of};
 ghost use Rattle.dc_remover.specs.State.{setting_met, state_met, made, answered};
+
+use stage::Refusal;
 
 // The means of I and Q, and the weight of a new sample. Mono samples have I's mean.
 #[repr(C)]
-#[derive(Clone, Copy)]
+#[derive(Clone, Copy, Default)]
 pub struct DcRemover {
     pub avg_i: f32,
     pub avg_q: f32,
@@ -31,6 +33,7 @@ pub struct DcRemover {
 
 // What every call answers: the number of the refusal, 0 for none; the state for the next call, which is
 // the one handed in where this one is refused; and how many samples or pairs were struck.
+// Stays: C reads this record (`tl_dc_remover_process`), so it has no type parameter for the state, and `refusal` is a number.
 #[repr(C)]
 #[derive(Clone, Copy)]
 pub struct DcRemoverDone {
@@ -46,27 +49,22 @@ impl DcRemover {
     {
         if stage::in_unit(alpha) {
             let fresh = DcRemover {
-                avg_i: 0.0,
-                avg_q: 0.0,
                 alpha,
+                ..DcRemover::default()
             };
-            return fresh.answer(stage::NONE, 0);
+            fresh.answer(stage::NONE, 0)
+        } else {
+            DcRemover::default().answer(u32::from(Refusal::Setting), 0)
         }
-        let zeros = DcRemover {
-            avg_i: 0.0,
-            avg_q: 0.0,
-            alpha: 0.0,
-        };
-        zeros.answer(stage::SETTING, 0)
     }
 
-    // The number for this state and for what is lent, of which the flags speak.
-    fn number(self, within: bool, even: bool) -> u32
-        ensures { result ≡ refusal_no (setting_met self) (state_met self) within even true }
+    // The demands on this state and on what is lent, of which the flags speak.
+    fn demands(self, within: bool, even: bool) -> Result<(), Refusal>
+        ensures { number_of result ≡ refusal_no (setting_met self) (state_met self) within even true }
     {
         let setting = stage::in_unit(self.alpha);
         let state = stage::both_finite(self.avg_i, self.avg_q);
-        stage::refusal(setting, state, within, even, true)
+        stage::demands(setting, state, within, even, true)
     }
 
     // This state in an answer.

@@ -1,6 +1,6 @@
 // The three calls that take the mean off, in place: mono, interleaved, and I and Q in two slices. Each works block by
 // block, from the state that the block before gave.
-ghost use Rattle.std.specs.Prelude.{◌≡◌, min};
+ghost use Rattle.std.specs.Prelude.{◌≡◌};
 ghost use Rattle.dc_remover.specs.Process.{given, process_mono, process, process_split};
 
 use crate::{DcRemover, DcRemoverDone};
@@ -11,18 +11,15 @@ impl DcRemover {
     pub fn process_mono(mut self, data: &mut [f32]) -> DcRemoverDone
         ensures { given result «data».new ≡ process_mono self «data».old }
     {
-        let refusal = self.number(stage::within(data.len()), true);
-        if refusal != stage::NONE {
-            return self.answer(refusal, 0);
+        if let Err(refusal) = self.demands(stage::within(data.len()), true) {
+            return self.answer(u32::from(refusal), 0);
         }
-        let mut struck: usize = 0;
-        let mut k: usize = 0;
-        while k < data.len() {
-            let e = shorter(data.len(), k + 16);
-            let done = self.block_mono(&mut data[k..e]);
-            struck += done.struck;
-            self = done.state;
-            k = e;
+        let mut struck = 0;
+        for b in 0..data.len().div_ceil(16) {
+            let end = data.len().min(16 * b + 16);
+            let ran = self.block_mono(&mut data[16 * b..end]);
+            self = ran.state;
+            struck += ran.struck;
         }
         self.answer(stage::NONE, struck)
     }
@@ -32,18 +29,20 @@ impl DcRemover {
     pub fn process(mut self, data: &mut [f32]) -> DcRemoverDone
         ensures { given result «data».new ≡ process self «data».old }
     {
-        let refusal = self.number(stage::within(data.len()), stage::even(data.len()));
-        if refusal != stage::NONE {
-            return self.answer(refusal, 0);
+        if let Err(refusal) = self.demands(stage::within(data.len()), stage::even(data.len())) {
+            return self.answer(u32::from(refusal), 0);
         }
-        let mut struck: usize = 0;
-        let mut k: usize = 0;
-        while k < data.len() {
-            let e = shorter(data.len(), k + 32);
-            let done = DcRemover::block_pairs(self.alpha, self.avg_i, self.avg_q, &mut data[k..e]);
-            struck += done.struck;
-            self = done.state;
-            k = e;
+        let mut struck = 0;
+        for b in 0..data.len().div_ceil(32) {
+            let end = data.len().min(32 * b + 32);
+            let ran = DcRemover::block_pairs(
+                self.alpha,
+                self.avg_i,
+                self.avg_q,
+                &mut data[32 * b..end],
+            );
+            self = ran.state;
+            struck += ran.struck;
         }
         self.answer(stage::NONE, struck)
     }
@@ -53,27 +52,17 @@ impl DcRemover {
     pub fn process_split(mut self, i: &mut [f32], q: &mut [f32]) -> DcRemoverDone
         ensures { given result (i.new, q.new) ≡ process_split self (i.old, q.old) }
     {
-        let refusal = self.number(stage::within(i.len()) & stage::within(q.len()), true);
-        if refusal != stage::NONE {
-            return self.answer(refusal, 0);
+        if let Err(refusal) = self.demands(stage::within(i.len()) & stage::within(q.len()), true) {
+            return self.answer(u32::from(refusal), 0);
         }
-        let mut struck: usize = 0;
-        let n = shorter(i.len(), q.len());
-        let mut k: usize = 0;
-        while k < n {
-            let e = shorter(n, k + 16);
-            let done = self.block_split(&mut i[k..e], &mut q[k..e]);
-            struck += done.struck;
-            self = done.state;
-            k = e;
+        let n = i.len().min(q.len());
+        let mut struck = 0;
+        for b in 0..n.div_ceil(16) {
+            let end = n.min(16 * b + 16);
+            let ran = self.block_split(&mut i[16 * b..end], &mut q[16 * b..end]);
+            self = ran.state;
+            struck += ran.struck;
         }
         self.answer(stage::NONE, struck)
     }
-}
-
-// The lesser of two lengths.
-fn shorter(a: usize, b: usize) -> usize
-    ensures { result ≡ min a b }
-{
-    if a < b { a } else { b }
 }

@@ -15,30 +15,25 @@ impl DcRemover {
         requires { length z.old ≡ length «data».now }
         ensures { all_finite z.new ≡ true → gave result 0 z.new ≡ ran mono_stage mono self «data».now }
     {
-        let mut k: usize = 0;
-        while k < data.len() {
-            let mean = stage::blend(self.alpha, self.avg_i, data[k]);
-            z[k] = data[k] - mean;
-            self.avg_i = mean;
-            k += 1;
+        for (k, x) in data.iter().enumerate() {
+            let (out, after) = self.mono_kept(*x);
+            z[k] = out;
+            self = after;
         }
         self
     }
 
     // The same of whole pairs, I and Q side by side.
+    // Stays: one loop for both would need a trait that says how samples lie in a slice, longer than this second loop.
     pub(crate) fn try_pairs(mut self, data: &[f32], z: &mut [f32]) -> DcRemover
         requires { (length z.old ≡ length «data».now) × (is_even (length «data».now) ≡ true) }
         ensures { all_finite z.new ≡ true → gave result 0 z.new ≡ ran pair_stage interleaved self «data».now }
     {
-        let mut k: usize = 0;
-        while k < data.len() {
-            let mean_i = stage::blend(self.alpha, self.avg_i, data[k]);
-            let mean_q = stage::blend(self.alpha, self.avg_q, data[k + 1]);
-            z[k] = data[k] - mean_i;
-            z[k + 1] = data[k + 1] - mean_q;
-            self.avg_i = mean_i;
-            self.avg_q = mean_q;
-            k += 2;
+        for k in 0..data.len() / 2 {
+            let (out, after) = self.pair_kept((data[2 * k], data[2 * k + 1]));
+            z[2 * k] = out.0;
+            z[2 * k + 1] = out.1;
+            self = after;
         }
         self
     }

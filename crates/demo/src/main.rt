@@ -13,151 +13,115 @@ use receiver::{BLOCK, Receiver, SOUND};
 use std::io;
 use std::io::Read;
 
-// What goes from one turn to the next: the receiver, and a byte that waits for its pair.
-#[derive(Clone, Copy)]
-struct Place {
-    going: bool,
+// The receiver with its taps and histories, and a byte that waits for its pair.
+#[derive(Drop)]
+struct Listener {
     receiver: Receiver,
-    odd: bool,
-    byte: u8,
+    taps: [f32; 121],
+    i_history: [f32; 120],
+    q_history: [f32; 120],
+    odd: Option<u8>,
 }
 
-fn main(rt: HostRuntime) {
-    let mut taps: [f32; 121] = [0.0; 121];
-    let mut i_history: [f32; 120] = [0.0; 120];
-    let mut q_history: [f32; 120] = [0.0; 120];
-    let mut block: [u8; BLOCK] = [0; BLOCK];
-    let made = Receiver::new(&mut taps, &mut i_history, &mut q_history);
-    listen(
-        &rt,
-        &mut rt.stdin(),
-        made.state,
-        &taps,
-        &mut i_history,
-        &mut q_history,
-        &mut block,
-    );
+// Why there is no further turn.
+#[derive(Drop)]
+enum End {
+    Whole,
+    Odd,
+    Refused,
+    Read(io::Error),
+    Write(io::Error),
 }
 
 // A proved loop has to end, and nothing says that an input does. So the turns are counted, up to a number that no run
 // reaches.
-fn listen(
-    rt: &(impl Print + Eprint + AllocGlobal),
-    input: &mut impl Read,
-    receiver: Receiver,
-    taps: &[f32],
-    i_history: &mut [f32],
-    q_history: &mut [f32],
-    block: &mut [u8],
-)
-    requires { 1 ≤ length block.old }
-{
-    let mut at = Place {
-        going: true,
-        receiver,
-        odd: false,
-        byte: 0,
-    };
+fn main(rt: HostRuntime) {
+    let mut listener = Listener::new();
+    let mut input = rt.stdin();
+    let mut block = [0; BLOCK];
     for _ in 0..u64::MAX {
-        if !at.going {
+        if let Err(end) = listener.turn(&rt, &mut input, &mut block) {
+            let _ = end.tell(&rt);
             break;
         }
-        at = turn(rt, input, at, taps, i_history, q_history, block);
     }
 }
 
-// One read, and the sound of the whole pairs that there are then.
-fn turn(
-    rt: &(impl Print + Eprint + AllocGlobal),
-    input: &mut impl Read,
-    at: Place,
-    taps: &[f32],
-    i_history: &mut [f32],
-    q_history: &mut [f32],
-    block: &mut [u8],
-) -> Place
-    requires { 1 ≤ length block.old }
-{
-    put_first(block, at.byte);
-    let held = waiting(at.odd);
-    match input.read(&mut block[held..]) {
-        Ok(0) => {
-            if at.odd {
-                let _ = rt.eprintln("odd input");
+impl Listener {
+    fn new() -> Listener {
+        let mut taps = [0.0; 121];
+        let mut i_history = [0.0; 120];
+        let mut q_history = [0.0; 120];
+        let made = Receiver::new(&mut taps, &mut i_history, &mut q_history);
+        Listener {
+            receiver: made.state,
+            taps,
+            i_history,
+            q_history,
+            odd: None,
+        }
+    }
+
+    // One read, and the sound of the whole pairs that there are then. The byte that waits goes in front of what is read.
+    fn turn(
+        &mut self,
+        rt: &impl Print,
+        input: &mut impl Read,
+        block: &mut [u8],
+    ) -> Result<(), End>
+        requires { 1 ≤ length block.old }
+    {
+        let held = match self.odd {
+            None => 0,
+            Some(byte) => {
+                block[0] = byte;
+                1
             }
-            ended(at)
+        };
+        match input.read(&mut block[held..]) {
+            Ok(0) if held == 0 => Err(End::Whole),
+            Ok(0) => Err(End::Odd),
+            Ok(got) => self.play(rt, &block[..held + got]),
+            Err(error) => Err(End::Read(error)),
         }
-        Ok(got) => {
-            let n = held + got;
-            play(rt, at, taps, i_history, q_history, &block[0..n])
+    }
+
+    // The sound of the whole pairs of these bytes. An odd one waits for the next.
+    fn play(&mut self, rt: &impl Print, bytes: &[u8]) -> Result<(), End> {
+        let n = bytes.len();
+        let (pairs, odd) = bytes.split_at(n - n % 2);
+        let mut sound = [0; SOUND];
+        let done = self.receiver.receive(
+            &self.taps,
+            &mut self.i_history,
+            &mut self.q_history,
+            pairs,
+            &mut sound,
+        );
+        rt.write_all(&sound[..done.count]).map_err(End::Write)?;
+        if done.refusal != 0 {
+            return Err(End::Refused);
         }
-        Err(error) => {
-            let _ = fail(rt, "read", error);
-            ended(at)
-        }
+        self.receiver = done.state;
+        self.odd = odd.first().copied();
+        Ok(())
     }
 }
 
-// The sound of the whole pairs of these bytes. An odd one waits for the next.
-fn play(
-    rt: &(impl Print + Eprint + AllocGlobal),
-    at: Place,
-    taps: &[f32],
-    i_history: &mut [f32],
-    q_history: &mut [f32],
-    bytes: &[u8],
-) -> Place {
-    let n = bytes.len();
-    let whole = n - n % 2;
-    let mut sound: [u8; SOUND] = [0; SOUND];
-    let done = at
-        .receiver
-        .receive(taps, i_history, q_history, &bytes[0..whole], &mut sound);
-    let count = done.count;
-    if let Err(error) = rt.write_all(&sound[0..count]) {
-        let _ = fail(rt, "write", error);
-        return ended(at);
-    }
-    let receiver = done.state;
-    Place {
-        going: done.refusal == 0,
-        receiver,
-        odd: n % 2 == 1,
-        byte: byte_at(bytes, whole),
-    }
-}
-
-// The byte that waits goes in front of what is read. (Where none does, the read writes over it.)
-fn put_first(block: &mut [u8], byte: u8)
-    requires { 1 ≤ length block.old }
-{
-    block[0] = byte;
-}
-
-// How many bytes wait for their pair.
-fn waiting(odd: bool) -> usize
-    ensures { result ≤ 1 }
-{
-    if odd { 1 } else { 0 }
-}
-
-// The byte at i, and 0 past the end.
-fn byte_at(bytes: &[u8], i: usize) -> u8 {
-    if i < bytes.len() { bytes[i] } else { 0 }
-}
-
-// The last turn.
-fn ended(at: Place) -> Place {
-    let receiver = at.receiver;
-    Place {
-        going: false,
-        receiver,
-        odd: at.odd,
-        byte: at.byte,
+impl End {
+    // The line on descriptor 2, where there is something to tell.
+    fn tell(self, rt: &(impl Eprint + AllocGlobal)) -> io::Result<()> {
+        match self {
+            End::Whole | End::Refused => Ok(()),
+            End::Odd => rt.eprintln("odd input"),
+            End::Read(error) => fail(rt, "read", error),
+            End::Write(error) => fail(rt, "write", error),
+        }
     }
 }
 
 // A line on descriptor 2: what failed, and why.
+// Stays: (d) `vectors` has these two functions too; a library for two programs would be longer than they are.
 fn fail(rt: &(impl Eprint + AllocGlobal), what: &str, error: io::Error) -> io::Result<()> {
     let text = format!(in rt.alloc(); "{error}")?;
     let why = without_number(text.as_str());

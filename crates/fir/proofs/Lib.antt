@@ -8,4 +8,4 @@ pub mod Damage
 pub mod Each
 -- where windows begin, and values written in a row into a slice
 mod Places
-mod Placed
+mod Grown

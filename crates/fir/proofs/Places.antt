@@ -17,12 +17,6 @@ window_fits f i m t n lt fit =
     let more : (i + 1) * f ≤ m * f = mul-le-mul_right f (omega arith) in
     omega (arith, add-mul i 1 f, one-mul f)
 
--- output i of a row of m lies in the block
-pub row_place : (f at i m n : ℕ) → i < m → at + m * f < n + f → at + i * f < n
-row_place f at i m n lt fit =
-    let more : (i + 1) * f ≤ m * f = mul-le-mul_right f (omega arith) in
-    omega (arith, add-mul i 1 f, one-mul f)
-
 -- output j of the block does
 pub place_in : (f q n count j at : ℕ) → 0 < f → count ≡ count_of f q n → j < count → at ≡ q + j * f → at < n
 place_in f q n count j at pos is lt e = omega (arith, count_in f pos q n j (omega arith))

@@ -9,9 +9,9 @@ abbrev pub Upto : List Float → List Float → ℕ → ℕ → Type 0
 Upto z x factor m =
     (p k : ℕ) → p < factor → k < 128 → p * 128 + k < m → k * factor + p < length x → get_or z (p * 128 + k) nan ≡ get_or x (k * factor + p) nan
 
--- one tap of 32 lanes: each adds its own sample times the tap
-abbrev pub Turned : List Float → List Float → ℕ → Float → List Float → Type 0
-Turned acc z place tap acc' = (l : ℕ) → l < 32 → get_or acc' l nan ≡ add binary32 (get_or acc l nan) (mul binary32 (get_or z (place + l) nan) tap)
+-- one tap of n lanes: each adds its own sample times the tap
+abbrev pub Turned : ℕ → List Float → List Float → ℕ → ℕ → Float → List Float → Type 0
+Turned n acc x place step tap acc' = (l : ℕ) → l < n → get_or acc' l nan ≡ add binary32 (get_or acc l nan) (mul binary32 (get_or x (place + l * step) nan) tap)
 
 -- 32 outputs, from output q of the samples x: those whose windows lie in x
 abbrev pub Summed : List Float → List Float → ℕ → ℕ → List Float → Type 0

@@ -1,7 +1,10 @@
 // Sums of products: each product and each sum rounded once, in index order.
-ghost use Rattle.std.specs.Prelude.{◌≡◌, ◌≤◌, length};
-ghost use Rattle.stage.specs.Floats.{plus_zero};
+ghost use Rattle.std.specs.Prelude.{◌≡◌, ◌+◌, ◌*◌, ◌≤◌, length};
+ghost use Rattle.stage.specs.Counted.{counted};
 ghost use Rattle.fir.specs.Dot.{dot_from};
+ghost use Rattle.fir.specs.Written.{dots_of};
+
+use crate::lanes::turn;
 
 // acc, and then each sample times its tap.
 pub(crate) fn dot_from(acc: f32, xs: &[f32], ts: &[f32]) -> f32
@@ -9,40 +12,20 @@ pub(crate) fn dot_from(acc: f32, xs: &[f32], ts: &[f32]) -> f32
     ensures { result ≡ dot_from acc xs.now ts.now }
 {
     let mut sum = acc;
-    let mut i = 0;
-    while i < ts.len() {
-        sum = sum + xs[i] * ts[i];
-        i += 1;
+    for (i, t) in ts.iter().enumerate() {
+        sum += xs[i] * *t;
     }
     sum
 }
 
-// Four neighbouring outputs.
-#[derive(Clone, Copy)]
-pub(crate) struct Four {
-    pub(crate) a: f32,
-    pub(crate) b: f32,
-    pub(crate) c: f32,
-    pub(crate) d: f32,
-}
-
-// Four sums side by side: no sum waits for another, and each is what `dot_from` gives.
-pub(crate) fn dot_four(xa: &[f32], xb: &[f32], xc: &[f32], xd: &[f32], ts: &[f32]) -> Four
-    requires { (length ts.now ≤ length xa.now) × (length ts.now ≤ length xb.now) × (length ts.now ≤ length xc.now) × (length ts.now ≤ length xd.now) }
-    ensures { (result.a ≡ dot_from plus_zero xa.now ts.now) × (result.b ≡ dot_from plus_zero xb.now ts.now) × (result.c ≡ dot_from plus_zero xc.now ts.now) × (result.d ≡ dot_from plus_zero xd.now ts.now) }
+// Four sums side by side, of windows `factor` apart: no sum waits for another, and each is what `dot_from` gives.
+pub(crate) fn dot_four(x: &[f32], factor: usize, ts: &[f32]) -> [f32; 4]
+    requires { (factor ≤ 64) × (3 * factor + length ts.now ≤ length x.now) }
+    ensures { result ≡ counted (dots_of ts.now x.now factor) 4 }
 {
-    let mut a = 0.0f32;
-    let mut b = 0.0f32;
-    let mut c = 0.0f32;
-    let mut d = 0.0f32;
-    let mut i = 0;
-    while i < ts.len() {
-        let t = ts[i];
-        a = a + xa[i] * t;
-        b = b + xb[i] * t;
-        c = c + xc[i] * t;
-        d = d + xd[i] * t;
-        i += 1;
+    let mut sums = [0.0f32; 4];
+    for (i, t) in ts.iter().enumerate() {
+        turn(&mut sums, x, i, factor, *t);
     }
-    Four { a, b, c, d }
+    sums
 }

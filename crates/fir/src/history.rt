@@ -1,5 +1,5 @@
 // The history: the samples that later windows reach back to.
-ghost use Rattle.std.specs.Prelude.{◌≡◌, ◌++◌, ◌-◌, ◌≤◌, length, drop, replicate};
+ghost use Rattle.std.specs.Prelude.{◌≡◌, length, replicate};
 ghost use Rattle.stage.specs.Floats.{plus_zero};
 ghost use Rattle.fir.specs.Filter.{history_fits, kept};
 
@@ -18,12 +18,10 @@ pub fn keep(history: &mut [f32], input: &[f32])
     let h = history.len();
     let n = input.len();
     if h <= n {
-        let a = n - h;
-        overwrite(history, &input[a..]);
+        history.copy_from_slice(&input[n - h..]);
     } else {
-        let m = h - n;
-        shift(history, n);
-        overwrite(&mut history[m..], input);
+        history.copy_within(n.., 0);
+        history[h - n..].copy_from_slice(input);
     }
 }
 
@@ -31,34 +29,5 @@ pub fn keep(history: &mut [f32], input: &[f32])
 pub fn clear(history: &mut [f32])
     ensures { history.new ≡ replicate (length history.old) plus_zero }
 {
-    let mut i = 0;
-    while i < history.len() {
-        history[i] = 0.0;
-        i += 1;
-    }
-}
-
-// dst becomes src.
-fn overwrite(dst: &mut [f32], src: &[f32])
-    requires { length dst.old ≡ length src.now }
-    ensures { dst.new ≡ src.now }
-{
-    let mut i = 0;
-    while i < src.len() {
-        dst[i] = src[i];
-        i += 1;
-    }
-}
-
-// The elements from n on move down to the start; the last n stay.
-fn shift(dst: &mut [f32], n: usize)
-    requires { n ≤ length dst.old }
-    ensures { dst.new ≡ drop n dst.old ++ drop (length dst.old - n) dst.old }
-{
-    let m = dst.len() - n;
-    let mut i = 0;
-    while i < m {
-        dst[i] = dst[i + n];
-        i += 1;
-    }
+    history.fill(0.0);
 }

@@ -8,11 +8,10 @@
 // `filter_into` works by planes: samples are copied so that those of neighbouring outputs lie side by side, and
 // then 32 outputs are summed at once, each in index order, so that each is to the bit what one sum after another
 // gives. No public function here has a `requires`: a call tests lengths once and does nothing where they do not
-// fit. The functions inside have one, and cite `specs/Written.antt`, `Planes.antt` and `Ready.antt`.
+// fit. Then it makes a `Work`, whose ghost fields hold what was tested, and the functions inside go on from there;
+// they cite `specs/Written.antt` and `Planes.antt`.
 #![tactic(auto)]
 
-mod block;
-mod chunk;
 mod counts;
 mod dot;
 mod gather;
@@ -20,9 +19,11 @@ mod history;
 mod lanes;
 mod odd;
 mod plain;
+mod planar;
 mod planes;
 mod run;
 mod window;
+mod work;
 
 pub use counts::{count, next_phase};
 pub use history::{clear, history_fits, keep};

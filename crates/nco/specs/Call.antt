@@ -9,9 +9,13 @@ use Rattle.nco.specs.declared.NcoDone.{NcoDone}
 use Rattle.nco.specs.Mix.{increment_of, tuned_at, mixed_outs, phase_after}
 use Rattle.nco.specs.Rules.{tuning_refusal, retuning_refusal, mixing_refusal, resting_refusal}
 
+-- a state in an answer
+abbrev pub answered : ℕ → Nco → NcoDone
+answered number s = record { refusal = number; state = s }
+
 -- the number, and the state `run` where it is 0, else `refused`
 abbrev pub given : ℕ → Nco → Nco → NcoDone
-given number run refused = record { refusal = number; state = unless number run refused }
+given number run refused = answered number (unless number run refused)
 
 -- a record of zeros
 abbrev pub nought : Float

@@ -9,6 +9,7 @@ use Rattle.stage.specs.Floats.{plus_zero}
 use Rattle.stage.specs.Run.{Answer, kept, outs, end}
 use Rattle.stage.specs.Layout.{pairs, flat}
 use Rattle.nco.specs.declared.Nco.{Nco}
+use Rattle.nco.specs.declared.turn.Turn.{Turn}
 
 -- ((2 x PI) x frequency) / rate
 unfoldable pub increment_of : Float → Float → Float
@@ -18,18 +19,12 @@ increment_of freq rate = div binary64 (mul binary64 TAU freq) rate
 unfoldable pub tuned_at : Float → Float → Nco
 tuned_at phase inc = record { phase = phase; phase_inc = inc; rotator_i = cosined inc; rotator_q = sined inc }
 
--- where a mixing stands between two pairs
-pub record Spin : Type 0 where
-  pub cosine : Float
-  pub sine : Float
-  pub phase : Float
-
 -- sine and cosine are taken afresh at the start of each call
-abbrev pub begins : Nco → Spin
+abbrev pub begins : Nco → Turn
 begins s = record { cosine = cosined s.phase; sine = sined s.phase; phase = s.phase }
 
 -- I x cos + Q x sin and -I x sin + Q x cos, each narrowed
-unfoldable pub mixed_at : Spin → Float × Float → Float × Float
+unfoldable pub mixed_at : Turn → Float × Float → Float × Float
 mixed_at t p =
     let i = p.0 in
     let q = p.1 in (
@@ -38,7 +33,7 @@ mixed_at t p =
     )
 
 -- one sample on: turned by the rotator, and one rounded addition to the phase
-unfoldable pub spun : Nco → Spin → Spin
+unfoldable pub spun : Nco → Turn → Turn
 spun s t =
     record {
       cosine = sub binary64 (mul binary64 t.cosine s.rotator_i) (mul binary64 t.sine s.rotator_q);
@@ -47,7 +42,7 @@ spun s t =
     }
 
 -- no pair is struck here: NaN and infinities pass
-unfoldable pub spin : Nco → Spin → Float × Float → Answer (Float × Float) Spin
+unfoldable pub spin : Nco → Turn → Float × Float → Answer (Float × Float) Turn
 spin s t p = kept (mixed_at t p) (spun s t)
 
 -- what stands in the slice afterwards, and the phase after the last pair

@@ -13,10 +13,12 @@ mod tune;
 mod turn;
 
 ghost use Rattle.std.specs.Prelude.{◌≡◌};
-ghost use Rattle.nco.specs.Call.{made, retuned, mixed, cleared};
+ghost use Rattle.nco.specs.Call.{answered, made, retuned, mixed, cleared};
+
+use tune::Tuning;
 
 #[repr(C)]
-#[derive(Clone, Copy)]
+#[derive(Clone, Copy, Default)]
 pub struct Nco {
     pub phase: f64,
     pub phase_inc: f64,
@@ -24,6 +26,8 @@ pub struct Nco {
     pub rotator_q: f64,
 }
 
+// What every call answers: the number of the refusal, 0 for none; and the state for the next call, which is the one
+// handed in where this one is refused.
 #[repr(C)]
 #[derive(Clone, Copy)]
 pub struct NcoDone {
@@ -37,21 +41,14 @@ impl Nco {
     pub fn new(freq_hz: f64, sample_rate_hz: f64) -> NcoDone
         ensures { result ≡ made freq_hz sample_rate_hz }
     {
-        let refusal = rules::tuning(freq_hz, sample_rate_hz);
-        if refusal == stage::NONE {
-            let inc = tune::increment(freq_hz, sample_rate_hz);
-            let state = tune::tuned(0.0, inc);
-            return NcoDone { refusal, state };
+        let tuning = Tuning {
+            freq: freq_hz,
+            rate: sample_rate_hz,
+        };
+        if let Err(refusal) = tuning.demands() {
+            return Nco::default().answer(u32::from(refusal));
         }
-        NcoDone {
-            refusal,
-            state: Nco {
-                phase: 0.0,
-                phase_inc: 0.0,
-                rotator_i: 0.0,
-                rotator_q: 0.0,
-            },
-        }
+        tuning.at(0.0).answer(stage::NONE)
     }
 
     // Another frequency at the phase that there is. SETTING as `new`, and for the old increment too; STATE for a
@@ -59,16 +56,15 @@ impl Nco {
     pub fn set_freq(mut self, freq_hz: f64, sample_rate_hz: f64) -> NcoDone
         ensures { result ≡ retuned self freq_hz sample_rate_hz }
     {
-        let refusal = rules::retuning(self, freq_hz, sample_rate_hz);
-        if refusal == stage::NONE {
-            let inc = tune::increment(freq_hz, sample_rate_hz);
-            let next = tune::tuned(self.phase, inc);
-            self = next;
+        let tuning = Tuning {
+            freq: freq_hz,
+            rate: sample_rate_hz,
+        };
+        if let Err(refusal) = self.retuning(tuning) {
+            return self.answer(u32::from(refusal));
         }
-        NcoDone {
-            refusal,
-            state: self,
-        }
+        self = tuning.at(self.phase);
+        self.answer(stage::NONE)
     }
 
     // Mixes the pairs of `iq` in place. SETTING for an increment outside -PI to PI, STATE for a phase or a rotator
@@ -76,25 +72,29 @@ impl Nco {
     pub fn mix(mut self, iq: &mut [f32]) -> NcoDone
         ensures { (result, iq.new) ≡ mixed self iq.old }
     {
-        let refusal = rules::mixing(self, iq.len());
-        if refusal == stage::NONE {
-            let end = self.run(iq);
-            self.phase = angle::turn::pull(end);
+        if let Err(refusal) = self.mixing(iq.len()) {
+            return self.answer(u32::from(refusal));
         }
-        NcoDone {
-            refusal,
-            state: self,
-        }
+        let end = self.run(iq);
+        self.phase = angle::turn::pull(end);
+        self.answer(stage::NONE)
     }
 
     // Phase 0 again. SETTING and STATE as `mix`: a poisoned oscillator is not healed, a new one is made.
     pub fn reset(mut self) -> NcoDone
         ensures { result ≡ cleared self }
     {
-        let refusal = rules::resting(self);
-        if refusal == stage::NONE {
-            self.phase = 0.0;
+        if let Err(refusal) = self.resting() {
+            return self.answer(u32::from(refusal));
         }
+        self.phase = 0.0;
+        self.answer(stage::NONE)
+    }
+
+    // This state in an answer.
+    fn answer(self, refusal: u32) -> NcoDone
+        ensures { result ≡ answered refusal self }
+    {
         NcoDone {
             refusal,
             state: self,

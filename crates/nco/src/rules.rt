@@ -1,8 +1,12 @@
-// The oscillator's rules, and the number for each call.
-ghost use Rattle.std.specs.Prelude.{◌≡◌, ℕ};
+// The oscillator's rules, and what each call demands.
+ghost use Rattle.std.specs.Prelude.{◌≡◌};
+ghost use Rattle.stage.specs.Numbers.{number_of};
 ghost use Rattle.nco.specs.Rules.{increment_allowed, tuning_allowed, at_rest, tuning_refusal, retuning_refusal, mixing_refusal, resting_refusal};
 
 use crate::Nco;
+use crate::tune::Tuning;
+use number::kinds::Real;
+use stage::Refusal;
 
 // From -PI to PI, both ends allowed; NaN is not.
 fn increment_allowed(inc: f64) -> bool
@@ -11,49 +15,50 @@ fn increment_allowed(inc: f64) -> bool
     (-angle::turn::PI <= inc) & (inc <= angle::turn::PI)
 }
 
-fn tuning_allowed(freq: f64, rate: f64) -> bool
-    ensures { result ≡ tuning_allowed freq rate }
-{
-    let inc = crate::tune::increment(freq, rate);
-    number::kinds::finite_f64(freq) & stage::positive_f64(rate) & increment_allowed(inc)
+impl Tuning {
+    fn allowed(self) -> bool
+        ensures { result ≡ tuning_allowed self.freq self.rate }
+    {
+        self.freq.finite() & stage::positive(self.rate) & increment_allowed(self.increment())
+    }
+
+    pub fn demands(self) -> Result<(), Refusal>
+        ensures { number_of result ≡ tuning_refusal self.freq self.rate }
+    {
+        stage::demands(self.allowed(), true, true, true, true)
+    }
 }
 
-// Phase and rotator are finite.
-fn at_rest(s: Nco) -> bool
-    ensures { result ≡ at_rest s }
-{
-    number::kinds::finite_f64(s.phase)
-        & number::kinds::finite_f64(s.rotator_i)
-        & number::kinds::finite_f64(s.rotator_q)
-}
+impl Nco {
+    // Phase and rotator are finite.
+    fn at_rest(self) -> bool
+        ensures { result ≡ at_rest self }
+    {
+        self.phase.finite() & self.rotator_i.finite() & self.rotator_q.finite()
+    }
 
-pub fn tuning(freq: f64, rate: f64) -> u32
-    ensures { result ≡ tuning_refusal freq rate }
-{
-    stage::refusal(tuning_allowed(freq, rate), true, true, true, true)
-}
+    pub(crate) fn retuning(self, tuning: Tuning) -> Result<(), Refusal>
+        ensures { number_of result ≡ retuning_refusal self tuning.freq tuning.rate }
+    {
+        let setting = increment_allowed(self.phase_inc) & tuning.allowed();
+        stage::demands(setting, self.at_rest(), true, true, true)
+    }
 
-pub fn retuning(s: Nco, freq: f64, rate: f64) -> u32
-    ensures { result ≡ retuning_refusal s freq rate }
-{
-    let setting = increment_allowed(s.phase_inc) & tuning_allowed(freq, rate);
-    stage::refusal(setting, at_rest(s), true, true, true)
-}
+    pub(crate) fn mixing(self, n: usize) -> Result<(), Refusal>
+        ensures { number_of result ≡ mixing_refusal self n }
+    {
+        stage::demands(
+            increment_allowed(self.phase_inc),
+            self.at_rest(),
+            stage::within(n),
+            stage::even(n),
+            true,
+        )
+    }
 
-pub fn mixing(s: Nco, n: usize) -> u32
-    ensures { result ≡ mixing_refusal s n }
-{
-    stage::refusal(
-        increment_allowed(s.phase_inc),
-        at_rest(s),
-        stage::within(n),
-        stage::even(n),
-        true,
-    )
-}
-
-pub fn resting(s: Nco) -> u32
-    ensures { result ≡ resting_refusal s }
-{
-    stage::refusal(increment_allowed(s.phase_inc), at_rest(s), true, true, true)
+    pub(crate) fn resting(self) -> Result<(), Refusal>
+        ensures { number_of result ≡ resting_refusal self }
+    {
+        stage::demands(increment_allowed(self.phase_inc), self.at_rest(), true, true, true)
+    }
 }

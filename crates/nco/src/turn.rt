@@ -1,11 +1,10 @@
 // One turn of the oscillator: a pair mixed by it, and the turn after it. Four pairs at a time are worked side by side.
-ghost use Rattle.std.specs.Prelude.{◌≡◌, true, not, T};
+ghost use Rattle.std.specs.Prelude.{◌≡◌, not, T, IfSome};
 ghost use Rattle.std.specs.Float.Ieee.{is_nan};
 ghost use Rattle.nco.specs.Mix.{spun};
-ghost use Rattle.nco.specs.Blocks.{spin_of, wide_at, Mixes};
+ghost use Rattle.nco.specs.Blocks.{wide_at, ahead};
 
 use crate::Nco;
-use number::eight::Eight;
 
 // The cosine and the sine that a pair is mixed by, and the phase.
 #[derive(Clone, Copy)]
@@ -25,7 +24,7 @@ pub(crate) struct WidePair {
 impl Nco {
     // One sample on: turned by the rotator, and one rounded addition to the phase.
     pub(crate) fn next(self, turn: Turn) -> Turn
-        ensures { spin_of result ≡ spun self (spin_of turn) }
+        ensures { result ≡ spun self turn }
     {
         Turn {
             cosine: turn.cosine * self.rotator_i - turn.sine * self.rotator_q,
@@ -34,48 +33,42 @@ impl Nco {
         }
     }
 
-    // The four pairs from i0, q0 on, mixed. A sum is a number only if all that it sums are: so one test allows eight
-    // casts, which are not defined at NaN.
-    pub(crate) fn four(
-        self,
-        turn: Turn,
-        i0: f32,
-        q0: f32,
-        i1: f32,
-        q1: f32,
-        i2: f32,
-        q2: f32,
-        i3: f32,
-        q3: f32,
-    ) -> Eight
-        ensures { result.near ≡ true → Mixes self (spin_of turn) result i0 q0 i1 q1 i2 q2 i3 q3 }
+    // Four pairs mixed, the first of them by `first`, and the turn after the last; nothing where an element is NaN, whose
+    // cast is not defined, or where a result is not near.
+    pub(crate) fn four(self, first: Turn, iq: [f32; 8]) -> Option<([f32; 8], Turn)>
+        ensures { IfSome result (λ answer. answer ≡ ahead self iq 0 first) }
     {
-        let sum = ((i0 + i2) + (i1 + i3)) + ((q0 + q2) + (q1 + q3));
-        if sum != sum {
-            return number::eight::none();
+        let mut numbers = true;
+        for x in iq {
+            numbers &= !x.is_nan();
         }
-        let a = wide(turn, i0, q0);
-        let t1 = self.next(turn);
-        let b = wide(t1, i1, q1);
-        let t2 = self.next(t1);
-        let c = wide(t2, i2, q2);
-        let t3 = self.next(t2);
-        let d = wide(t3, i3, q3);
-        number::eight::narrow(a.i, a.q, b.i, b.q, c.i, c.q, d.i, d.q)
+        if !numbers {
+            return None;
+        }
+        let mut turn = first;
+        let mut wide: [f64; 8] = [0.0; 8];
+        for k in 0..4 {
+            let pair = wide_mixed(turn, iq[2 * k], iq[2 * k + 1]);
+            wide[2 * k] = pair.i;
+            wide[2 * k + 1] = pair.q;
+            turn = self.next(turn);
+        }
+        let near = number::eight::narrow(wide)?;
+        Some((near, turn))
     }
 }
 
 // A pair of numbers, mixed. A cast is not defined at NaN.
-fn wide(turn: Turn, i: f32, q: f32) -> WidePair
+fn wide_mixed(turn: Turn, i: f32, q: f32) -> WidePair
     requires { T (not (is_nan i)) × T (not (is_nan q)) }
-    ensures { (result.i, result.q) ≡ wide_at (spin_of turn) (i, q) }
+    ensures { (result.i, result.q) ≡ wide_at turn (i, q) }
 {
     mixed(turn, i as f64, q as f64)
 }
 
 // I cos + Q sin and -I sin + Q cos.
 pub(crate) fn mixed(turn: Turn, i: f64, q: f64) -> WidePair
-    ensures { (result.i, result.q) ≡ wide_at (spin_of turn) (i, q) }
+    ensures { (result.i, result.q) ≡ wide_at turn (i, q) }
 {
     WidePair {
         i: i * turn.cosine + q * turn.sine,

@@ -1,63 +1,30 @@
 // Eight f64 narrowed side by side, where none of them is far from 1: the compiler works them two at a time. What lies
 // farther, and NaN, is left to `narrow::narrow` and `alone::narrow`.
-ghost use Rattle.std.specs.Prelude.{◌≡◌, true, not, T, is_nan};
+ghost use Rattle.std.specs.Prelude.{◌≡◌, true, not, T, All, is_nan};
+ghost use Rattle.std.specs.List.{list_all};
 ghost use Rattle.number.specs.Narrow.{narrowed};
-ghost use Rattle.number.specs.Eight.{is_near, no_eight, eight_of};
+ghost use Rattle.number.specs.Eight.{is_near, eight_of};
 
-// `near` says whether the eight are there.
-#[derive(Clone, Copy)]
-pub struct Eight {
-    pub near: bool,
-    pub y0: f32,
-    pub y1: f32,
-    pub y2: f32,
-    pub y3: f32,
-    pub y4: f32,
-    pub y5: f32,
-    pub y6: f32,
-    pub y7: f32,
-}
-
-// The f32 nearest to each, a tie to the even one, if each of them lies from 2^-64 to 2^64 in size; else zeros. A sum
-// is a number only if all that it sums are: so one test finds a NaN, whose pattern may not be asked for.
-pub fn narrow(x0: f64, x1: f64, x2: f64, x3: f64, x4: f64, x5: f64, x6: f64, x7: f64) -> Eight
-    ensures { result ≡ eight_of x0 x1 x2 x3 x4 x5 x6 x7 }
+// The f32 nearest to each, in order and a tie to the even one, if each of them lies from 2^-64 to 2^64 in size. The tests
+// are joined by `&=`, without a branch.
+pub fn narrow(xs: [f64; 8]) -> Option<[f32; 8]>
+    ensures { result ≡ eight_of xs }
 {
-    let sum = ((x0 + x2) + (x4 + x6)) + ((x1 + x3) + (x5 + x7));
-    if sum != sum {
-        return none();
+    let mut numbers = true;
+    for x in xs {
+        numbers &= !x.is_nan();
     }
-    if near(x0) & near(x1) & near(x2) & near(x3) & near(x4) & near(x5) & near(x6) & near(x7) {
-        return Eight {
-            near: true,
-            y0: split(x0),
-            y1: split(x1),
-            y2: split(x2),
-            y3: split(x3),
-            y4: split(x4),
-            y5: split(x5),
-            y6: split(x6),
-            y7: split(x7),
-        };
+    if !numbers {
+        return None;
     }
-    none()
-}
-
-// What stands for eight that are not there.
-pub fn none() -> Eight
-    ensures { result ≡ no_eight }
-{
-    Eight {
-        near: false,
-        y0: 0.0,
-        y1: 0.0,
-        y2: 0.0,
-        y3: 0.0,
-        y4: 0.0,
-        y5: 0.0,
-        y6: 0.0,
-        y7: 0.0,
+    let mut all_near = true;
+    for x in xs {
+        all_near &= near(x);
     }
+    if !all_near {
+        return None;
+    }
+    Some(xs.map(split))
 }
 
 // The f32 nearest to x. The product has room for x's 24 leading digits beside x itself and no more, so that taking x

@@ -4,6 +4,8 @@ pub mod Marked
 -- no second answer: the number work, the stages, the C names, the demo's work
 mod OneAnswer
 pub mod OnlyNumbers
+pub mod OnlyRuns
+pub mod OnlySteps
 pub mod OnlyStages
 pub mod OnlyC
 pub mod OnlyReceiver

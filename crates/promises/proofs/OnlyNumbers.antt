@@ -16,20 +16,29 @@ use Rattle.promises.proofs.OneAnswer.{one_answer}
 
 -- ---- number
 
-pub finite_f32 : NoSecond number-says.kinds.finite_f32.ended number.kinds.finite_f32.Reads.Learnt
+pub finite_f32 : NoSecond number-says.kinds.F32Real.finite.ended number.kinds.F32Real.finite.Reads.Learnt
 finite_f32 h x y = one_answer (λ r. (r, (tt, tt)))
 
-pub finite_f64 : NoSecond number-says.kinds.finite_f64.ended number.kinds.finite_f64.Reads.Learnt
+pub finite_f64 : NoSecond number-says.kinds.F64Real.finite.ended number.kinds.F64Real.finite.Reads.Learnt
 finite_f64 h x y = one_answer (λ r. (r, (tt, tt)))
 
-pub magnitude_f32 : NoSecond number-says.kinds.magnitude_f32.ended number.kinds.magnitude_f32.Reads.Learnt
+pub magnitude_f32 : NoSecond number-says.kinds.F32Real.magnitude.ended number.kinds.F32Real.magnitude.Reads.Learnt
 magnitude_f32 h x y = one_answer (λ r. (r, (tt, tt)))
 
-pub magnitude_f64 : NoSecond number-says.kinds.magnitude_f64.ended number.kinds.magnitude_f64.Reads.Learnt
+pub magnitude_f64 : NoSecond number-says.kinds.F64Real.magnitude.ended number.kinds.F64Real.magnitude.Reads.Learnt
 magnitude_f64 h x y = one_answer (λ r. (r, (tt, tt)))
 
-pub negative_f64 : NoSecond number-says.kinds.negative_f64.ended number.kinds.negative_f64.Reads.Learnt
+pub negative_f32 : NoSecond number-says.kinds.F32Real.negative.ended number.kinds.F32Real.negative.Reads.Learnt
+negative_f32 h x y = one_answer (λ r. (r, (tt, tt)))
+
+pub negative_f64 : NoSecond number-says.kinds.F64Real.negative.ended number.kinds.F64Real.negative.Reads.Learnt
 negative_f64 h x y = one_answer (λ r. (r, (tt, tt)))
+
+pub wide_f32 : NoSecond number-says.kinds.F32Real.wide.ended number.kinds.F32Real.wide.Reads.Learnt
+wide_f32 h x y = one_answer (λ r. (r, (tt, tt)))
+
+pub wide_f64 : NoSecond number-says.kinds.F64Real.wide.ended number.kinds.F64Real.wide.Reads.Learnt
+wide_f64 h x y = one_answer (λ r. (r, (tt, tt)))
 
 pub widen : NoSecond number-says.widen.widen.ended number.widen.widen.Reads.Learnt
 widen h x y = one_answer (λ r. (r, (tt, tt)))
@@ -83,9 +92,6 @@ arctangents_f32 h x y = one_answer (λ r. (r, (tt, (tt, tt))))
 
 -- ---- stage
 
-pub refusal : NoSecond stage-says.refusal.ended stage.refusal.Reads.Learnt
-refusal h x y = one_answer (λ r. (r, (tt, (tt, (tt, (tt, (tt, tt)))))))
-
 pub within : NoSecond stage-says.within.ended stage.within.Reads.Learnt
 within h x y = one_answer (λ r. (r, (tt, tt)))
 
@@ -94,12 +100,6 @@ even h x y = one_answer (λ r. (r, (tt, tt)))
 
 pub only_in_unit : NoSecond stage-says.in_unit.ended stage.in_unit.Reads.Learnt
 only_in_unit h x y = one_answer (λ r. (r, (tt, tt)))
-
-pub positive : NoSecond stage-says.positive.ended stage.positive.Reads.Learnt
-positive h x y = one_answer (λ r. (r, (tt, tt)))
-
-pub positive_f64 : NoSecond stage-says.positive_f64.ended stage.positive_f64.Reads.Learnt
-positive_f64 h x y = one_answer (λ r. (r, (tt, tt)))
 
 pub only_not_negative : NoSecond stage-says.not_negative.ended stage.not_negative.Reads.Learnt
 only_not_negative h x y = one_answer (λ r. (r, (tt, tt)))

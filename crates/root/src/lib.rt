@@ -81,11 +81,9 @@ fn whole_root(n: u64) -> u64
     requires { n < 2 ^ 48 }
     ensures { IsRoot n result }
 {
-    let mut r = 0u64;
-    let mut d = 24u64;
-    while d > 0 {
-        d -= 1;
-        let t = r + (1u64 << d);
+    let mut r = 0;
+    for d in (0..24u64).rev() {
+        let t = r + (1 << d);
         if t * t <= n {
             r = t;
         }

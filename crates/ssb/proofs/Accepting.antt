@@ -9,6 +9,7 @@ use lib.ListN.{length, replicate}
 use lib.Ieee.{Float}
 use borrow.Author.Tests.{eqb-true, leb-true}
 use Rattle.stage.specs.Length.{LONGEST, is_within, is_even}
+use Rattle.stage.specs.Layout.{pairs, over}
 use Rattle.stage.specs.Floats.{plus_zero}
 use Rattle.stage.proofs.Both.{both}
 use Rattle.stage.proofs.Refusals.{met, run_gives}
@@ -19,8 +20,11 @@ use Rattle.hilbert.specs.Making as hilbert
 use Rattle.hilbert.specs.declared.HilbertDone.{HilbertDone}
 use Rattle.ssb.specs.Rules.{lengths_fit}
 use Rattle.ssb.specs.Making.{new_refusal}
-use Rattle.ssb.specs.Process.{process_refusal}
+use Rattle.ssb.specs.Process.{process_refusal, processed}
+use Rattle.ssb.specs.Answers.{answer}
+use Rattle.ssb.specs.Sideband.{histories, ssb_outs, ssb_end}
 use Rattle.ssb.specs.Ready.{Ready, Block}
+use Rattle.ssb.specs.declared.SsbDemodulator.{SsbDemodulator}
 
 -- lengths that fit are those of SSB
 ready : (taps q i : ℕ) → lengths_fit taps q i ≡ true → Ready taps q i
@@ -54,3 +58,12 @@ new_begun taps q i e r taps' q' is =
     let none : hilbert.new_refusal (length taps) (length q) ≡ 0 = rw (k.sixty_five, k.sixty_four) in
     let gives = is ∙ sym (run_gives (hilbert.new_refusal (length taps) (length q)) _ _ none) in
     (ap {B = List Float} (λ p. p.1) gives, ap {B = List Float} (λ p. p.2) gives)
+
+-- and an accepted call gives the outputs and the histories of the definition
+pub accepted_gives : (d : SsbDemodulator) (taps q i input output : List Float)
+    → process_refusal (length taps) (length q) (length i) (length input) (length output) ≡ 0 → {q' i' output' : List Float}
+    → q' ≡ (ssb_end (histories q i) (pairs input)).q → i' ≡ (ssb_end (histories q i) (pairs input)).i
+    → output' ≡ over (ssb_outs d.is_usb taps (histories q i) (pairs input)) output
+    → (answer 0 d (length input / 2), q', i', output') ≡ processed d taps q i input output
+accepted_gives d taps q i input output none eq ei eo =
+    rw (eq, ei, eo) (run_gives (process_refusal (length taps) (length q) (length i) (length input) (length output)) _ _ none)

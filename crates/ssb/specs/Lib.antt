@@ -7,4 +7,5 @@ pub mod Making
 pub mod Process
 pub mod Stream
 pub mod Ready
+pub mod Lent
 pub mod Cases

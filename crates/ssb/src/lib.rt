@@ -9,7 +9,6 @@
 // function here has a `requires`.
 #![tactic(auto)]
 
-mod chunk;
 mod making;
 mod mixing;
 mod processing;

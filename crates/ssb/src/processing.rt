@@ -2,6 +2,7 @@
 ghost use Rattle.std.specs.Prelude.{◌≡◌};
 ghost use Rattle.ssb.specs.Process.{processed};
 
+use crate::run::Lent;
 use crate::{SsbDemodulator, SsbDone};
 
 impl SsbDemodulator {
@@ -30,7 +31,13 @@ impl SsbDemodulator {
         if number != stage::NONE {
             return crate::rules::answer_of(number, self);
         }
-        crate::run::run(self.is_usb, taps, q_history, i_history, input, output);
+        let mut lent = Lent {
+            is_usb: self.is_usb,
+            taps,
+            q_history,
+            i_history,
+        };
+        lent.run(input, output);
         SsbDone {
             refusal: stage::NONE,
             state: self,

@@ -1,42 +1,64 @@
 // A block of any length, up to 256 pairs at a time: so the work needs no scratch but small arrays.
-ghost use Rattle.std.specs.Prelude.{◌≡◌, ◌/◌, ◌≤◌, ◌<◌, length};
+ghost use Rattle.std.specs.Prelude.{◌≡◌, ◌+◌, ◌≤◌, length};
 ghost use Rattle.stage.specs.Layout.{pairs, over};
-ghost use Rattle.ssb.specs.Sideband.{histories, ssb_outs, ssb_end};
+ghost use Rattle.ssb.specs.Sideband.{ssb_outs, ssb_end};
 ghost use Rattle.ssb.specs.Ready.{Ready, Block};
+ghost use Rattle.ssb.specs.Lent.{Same, held};
 
-// The outputs of all pairs, at the start of `output`.
-pub(crate) fn run(
-    is_usb: bool,
-    taps: &[f32],
-    q_history: &mut [f32],
-    i_history: &mut [f32],
-    input: &[f32],
-    output: &mut [f32],
-)
-    requires { Ready (length taps.now) (length q_history.old) (length i_history.old) × Block (length input.now) (length output.old) }
-    ensures outputs { output.new ≡ over (ssb_outs is_usb taps.now (histories q_history.old i_history.old) (pairs input.now)) output.old }
-    ensures histories_after { histories q_history.new i_history.new ≡ ssb_end (histories q_history.old i_history.old) (pairs input.now) }
-{
-    let mut a = 0;
-    let mut j = 0;
-    while a < input.len() {
-        let m = least((input.len() - a) / 2, 256);
-        crate::chunk::chunk(
-            is_usb,
-            taps,
-            q_history,
-            i_history,
-            &input[a..a + 2 * m],
-            &mut output[j..j + m],
-        );
-        a += 2 * m;
-        j += m;
-    }
+// What a call works with: the sideband, the taps and the histories of Q and I.
+#[derive(Drop)]
+pub(crate) struct Lent<'t, 'h> {
+    pub(crate) is_usb: bool,
+    pub(crate) taps: &'t [f32],
+    pub(crate) q_history: &'h mut [f32],
+    pub(crate) i_history: &'h mut [f32],
 }
 
-// The smaller of two.
-fn least(a: usize, b: usize) -> usize
-    ensures { (result ≤ a) × (result ≤ b) × ((0 < a) → (0 < b) → (0 < result)) }
-{
-    if a < b { a } else { b }
+impl Lent<'_, '_> {
+    // The outputs of all pairs, at the start of `output`.
+    pub(crate) fn run(&mut self, input: &[f32], output: &mut [f32])
+        requires ready { Ready (length self.old.taps.now) (length self.old.q_history.now) (length self.old.i_history.now) }
+        requires block { Block (length input.now) (length output.old) }
+        ensures same { Same self.old self.new }
+        ensures outputs { output.new ≡ over (ssb_outs self.old.is_usb self.old.taps.now (held self.old) (pairs input.now)) output.old }
+        ensures histories_after { held self.new ≡ ssb_end (held self.old) (pairs input.now) }
+    {
+        let n = input.len() / 2;
+        for k in 0..n.div_ceil(256) {
+            let j = 256 * k;
+            let m = (n - j).min(256);
+            self.chunk(&input[2 * j..2 * (j + m)], &mut output[j..j + m]);
+        }
+    }
+
+    // Up to 256 pairs, as many as the output has places: I and Q taken apart, Q through the Hilbert filter, I delayed and
+    // mixed in.
+    fn chunk(&mut self, input: &[f32], output: &mut [f32])
+        requires ready { Ready (length self.old.taps.now) (length self.old.q_history.now) (length self.old.i_history.now) }
+        requires lengths { (length input.now ≡ length output.old + length output.old) × (length output.old ≤ 256) }
+        ensures same { Same self.old self.new }
+        ensures outputs { output.new ≡ ssb_outs self.old.is_usb self.old.taps.now (held self.old) (pairs input.now) }
+        ensures histories_after { held self.new ≡ ssb_end (held self.old) (pairs input.now) }
+    {
+        let n = output.len();
+        let mut i = [0.0f32; 256];
+        let mut q = [0.0f32; 256];
+        self.demodulate(input, &mut i[..n], &mut q[..n], output);
+    }
+
+    // The same, with room for as many I and Q.
+    fn demodulate(&mut self, input: &[f32], i: &mut [f32], q: &mut [f32], output: &mut [f32])
+        requires ready { Ready (length self.old.taps.now) (length self.old.q_history.now) (length self.old.i_history.now) }
+        requires lengths { (length input.now ≡ length output.old + length output.old) × (length output.old ≤ 256) }
+        requires halves { (length i.old ≡ length output.old) × (length q.old ≡ length output.old) }
+        ensures same { Same self.old self.new }
+        ensures outputs { output.new ≡ ssb_outs self.old.is_usb self.old.taps.now (held self.old) (pairs input.now) }
+        ensures histories_after { held self.new ≡ ssb_end (held self.old) (pairs input.now) }
+    {
+        halves::split(input, i, q);
+        hilbert::HilbertFilter::process_into(self.taps, self.q_history, q, output);
+        let i_history = &mut *self.i_history;
+        crate::mixing::mix_delayed(self.is_usb, i_history, i, output);
+        fir::keep(i_history, i);
+    }
 }

@@ -1,4 +1,4 @@
--- From what a call's code knows on each of its two ways to what the call gives: the number refuses it, or its loop is at the end of the run. Assumes nothing.
+-- From what a call's code knows where its demands are met to what the call gives. Assumes nothing.
 use Prim.Native.Nat.{ℕ, ◌/◌}
 use mathlib.Core.Path.{◌≡◌, refl, sym, ◌∙◌}
 use mathlib.Core.Bool.{true}
@@ -8,50 +8,32 @@ use lib.Seq.{take_all}
 use Rattle.stage.specs.Refusal.{NONE}
 use Rattle.stage.specs.Run.{outs, end, strikes}
 use Rattle.stage.specs.Layout.{pairs, flat, over}
-use Rattle.stage.specs.Lent.{Lent, mono, interleaved}
+use Rattle.stage.specs.Lent.{Lent, interleaved}
 use Rattle.stage.specs.Stage.{Stage}
 use Rattle.stage.specs.Call.{Given, gave, refused_with, number_of, ran, call}
 use Rattle.stage.specs.Into.{number_into, call_into}
-use Rattle.stage.proofs.Refusals.{met, refused_gives, run_gives}
+use Rattle.stage.proofs.Refusals.{met, run_gives}
 use Rattle.stage.proofs.Layouts.{length_pairs}
 use Rattle.stage.proofs.LoopInterleaved.{interleaved_full}
 use Rattle.stage.proofs.Intos.{into_lengths, into_run}
 
-module _ {A S X : Type 0} (g : Stage A A S) (l : Lent A X) (s : S) (x : X) (n : ℕ) (is : n ≡ number_of g l s x) where
-  pub gives_refused : (n ≡ NONE → ⊥) → refused_with n s x ≡ call g l s x
-  gives_refused h = rw is (refused_gives (number_of g l s x) (ran g l s x) (refused_with (number_of g l s x) s x) (λ z. h (is ∙ z)))
+module _ {A S X : Type 0} (g : Stage A A S) (l : Lent A X) (s : S) (x : X) (met_all : NONE ≡ number_of g l s x) where
+  -- what the work may count on
+  pub accepted_even : l.even x ≡ true
+  accepted_even = (met (g.setting s) (g.state s) (l.within x) (l.even x) true (sym met_all)).length
 
-  -- what the loop may count on
-  pub accepted_even : n ≡ NONE → l.even x ≡ true
-  accepted_even z = (met (g.setting s) (g.state s) (l.within x) (l.even x) true (sym is ∙ z)).length
+  pub met_gives : {r : Given S X} → r ≡ ran g l s x → r ≡ call g l s x
+  met_gives e = e ∙ run_gives (number_of g l s x) (ran g l s x) (refused_with (number_of g l s x) s x) (sym met_all)
 
-  -- t, k and y are the state, the struck count and what is lent, where the loop ends
-  pub gives_run : (t : S) (k : ℕ) (y : X) → n ≡ NONE → y ≡ l.written (outs g.step g.silence s (l.samples x)) x
-      → t ≡ end g.step s (l.samples x) → k ≡ strikes g.step s (l.samples x)
-      → record { refusal = NONE; state = t; struck = k; left = y } ≡ call g l s x
-  gives_run t k y z a b d = rw (a, b, d) (run_gives (number_of g l s x) (ran g l s x) (refused_with (number_of g l s x) s x) (sym is ∙ z))
-
-  -- the same where the code knows what the whole run gives
-  pub gives_ran : (r : Given S X) → n ≡ NONE → r ≡ ran g l s x → r ≡ call g l s x
-  gives_ran r z e = e ∙ run_gives (number_of g l s x) (ran g l s x) (refused_with (number_of g l s x) s x) (sym is ∙ z)
-
--- ---- where the demands are met and one of the runs of `runs.rt` is the work: it left `left`, at the state t with k struck
-module _ {A S X : Type 0} (g : Stage A A S) (l : Lent A X) (s : S) (x : X) where
-  pub met_gives : {r : Given S X} → NONE ≡ number_of g l s x → r ≡ ran g l s x → r ≡ call g l s x
-  met_gives {r} is e = e ∙ run_gives (number_of g l s x) (ran g l s x) (refused_with (number_of g l s x) s x) (sym is)
-
+-- ---- where one of the runs of `runs.rt` is the work: it left `left`, at the state t with k struck
 module _ {F S : Type 0} where
-  pub mono_gives : (g : Stage F F S) (s : S) (xs : List F) {left : List F} {t : S} {k : ℕ} → NONE ≡ number_of g mono s xs
-      → left ≡ outs g.step g.silence s xs → t ≡ end g.step s xs → k ≡ strikes g.step s xs → gave t k left ≡ call g mono s xs
-  mono_gives g s xs is a b d = met_gives g mono s xs is (rw (a, b, d))
-
   pub pairs_ran : (g : Stage (F × F) (F × F) S) (s : S) (xs : List F) {left : List F} {t : S} {k : ℕ} → interleaved.even xs ≡ true
       → left ≡ over (flat (outs g.step g.silence s (pairs xs))) xs → t ≡ end g.step s (pairs xs) → k ≡ strikes g.step s (pairs xs) → gave t k left ≡ ran g interleaved s xs
   pairs_ran g s xs whole a b d = rw (a, b, d, interleaved_full g.step g.silence s xs whole)
 
   pub pairs_gives : (g : Stage (F × F) (F × F) S) (s : S) (xs : List F) {left : List F} {t : S} {k : ℕ} → NONE ≡ number_of g interleaved s xs
       → left ≡ over (flat (outs g.step g.silence s (pairs xs))) xs → t ≡ end g.step s (pairs xs) → k ≡ strikes g.step s (pairs xs) → gave t k left ≡ call g interleaved s xs
-  pairs_gives g s xs is a b d = met_gives g interleaved s xs is (pairs_ran g s xs (accepted_even g interleaved s xs NONE is refl) a b d)
+  pairs_gives g s xs is a b d = met_gives g interleaved s xs is (pairs_ran g s xs (accepted_even g interleaved s xs is) a b d)
 
   pub into_gives : (g : Stage (F × F) F S) (s : S) (input output : List F) {left : List F} {t : S} {k : ℕ} → NONE ≡ number_into g s (length input) (length output)
       → let ps = take (length output) (pairs input) in

@@ -68,7 +68,11 @@ pub fn run_pairs<S: Feedback<(f32, f32), (f32, f32)>>(mut state: S, data: &mut [
 }
 
 /// Interleaved pairs of `input`, one output each from the start of `output`, as far as there are pairs and room; the places behind stay.
-pub fn run_into<S: Feedback<(f32, f32), f32>>(mut state: S, input: &[f32], output: &mut [f32]) -> Ran<S>
+pub fn run_into<S: Feedback<(f32, f32), f32>>(
+    mut state: S,
+    input: &[f32],
+    output: &mut [f32],
+) -> Ran<S>
     ensures left { output.new ≡ over (outs S.answer plus_zero state (take (length output.old) (pairs input.now))) output.old }
     ensures state { result.state ≡ end S.answer state (take (length output.old) (pairs input.now)) }
     ensures struck { result.struck ≡ strikes S.answer state (take (length output.old) (pairs input.now)) }

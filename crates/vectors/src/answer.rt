@@ -1,69 +1,68 @@
-// What goes by value: up to six singles, and up to six patterns of 64 bits, which are whole numbers, flags and the
-// bits of doubles. In an answer the refusal is the first pattern.
-use crate::case::{Case, after};
-use crate::slices;
-use crate::words::pattern;
+// What a call answers by value: up to six singles, and up to six patterns of 64 bits, which are whole numbers, flags
+// and the bits of doubles. The refusal is the first pattern. Places past the last number are 0.
+use crate::words::{self, Reader};
+use std::array;
+use std::num::{f32_to_bits_with_nan, f64_to_bits_with_nan};
 
-#[derive(Clone, Copy)]
+// Singles by their bits, all NaNs as one, so two answers are equal where each float is to the bit.
+#[derive(Clone, Copy, PartialEq, Eq)]
 pub struct Answer {
-    pub singles: [f32; 6],
-    pub patterns: [u64; 6],
+    singles: [u32; 6],
+    patterns: [u64; 6],
 }
 
-pub fn of(singles: [f32; 6], patterns: [u64; 6]) -> Answer {
-    Answer { singles, patterns }
-}
+impl Answer {
+    pub fn new(singles: &[f32], patterns: &[u64]) -> Answer {
+        Answer {
+            singles: array::from_fn(|i| singles.get(i).map_or(0, |x| f32_to_bits_with_nan(*x))),
+            patterns: array::from_fn(|i| patterns.get(i).copied().unwrap_or(0)),
+        }
+    }
 
-// An answer that has patterns alone.
-pub fn whole(a: u64, b: u64, c: u64, d: u64) -> Answer {
-    Answer {
-        singles: [0.0, 0.0, 0.0, 0.0, 0.0, 0.0],
-        patterns: [a, b, c, d, 0, 0],
+    // The answer that a file tells. With more numbers than an answer has, it is none.
+    pub fn read(words: &mut Reader, singles: usize, patterns: usize) -> Option<Answer> {
+        let told = words.take(singles);
+        let answer = Answer {
+            singles: array::from_fn(|i| words::at(told, i)),
+            patterns: words.patterns(patterns),
+        };
+        (singles <= 6 && patterns <= 6).then_some(answer)
+    }
+
+    // The number of the refusal, 0 for none. (Of number work, the first whole number or double.)
+    pub fn refusal(&self) -> u64 {
+        self.patterns[0]
     }
 }
 
-// The singles that are handed in.
-pub fn singles(file: &[u8], c: Case) -> [f32; 6] {
-    let mut s = [0.0f32; 6];
-    slices::fill(file, c.singles, c.single_count, &mut s);
-    s
-}
-
-// The patterns that are handed in. Where there are less, what stands next is not looked at.
-pub fn patterns(file: &[u8], c: Case) -> [u64; 6] {
-    let k = c.patterns;
-    [
-        pattern(file, k, 0),
-        pattern(file, k, 2),
-        pattern(file, k, 4),
-        pattern(file, k, 6),
-        pattern(file, k, 8),
-        pattern(file, k, 10),
-    ]
-}
-
-// Whether each number is the one that the file tells, and those past the last are 0.
-pub fn agrees(file: &[u8], c: Case, x: Answer) -> bool {
-    let s = x.singles;
-    let p = x.patterns;
-    let k = after(c.answer, c.answer_singles, 1);
-    slices::all(file, c.answer, c.answer_singles, &s)
-        & patterns_agree(file, k, c.answer_patterns, p)
-}
-
-fn patterns_agree(file: &[u8], k: usize, n: usize, p: [u64; 6]) -> bool {
-    (n < 7)
-        & is_pattern(file, k, n, 0, p[0])
-        & is_pattern(file, k, n, 1, p[1])
-        & is_pattern(file, k, n, 2, p[2])
-        & is_pattern(file, k, n, 3, p[3])
-        & is_pattern(file, k, n, 4, p[4])
-        & is_pattern(file, k, n, 5, p[5])
-}
-
-fn is_pattern(file: &[u8], k: usize, n: usize, i: usize, x: u64) -> bool {
-    if i < n {
-        return pattern(file, after(k, i, 2), 0) == x;
+impl From<f32> for Answer {
+    fn from(x: f32) -> Answer {
+        Answer::new(&[x], &[])
     }
-    x == 0
+}
+
+impl From<f64> for Answer {
+    fn from(x: f64) -> Answer {
+        Answer::from(f64_to_bits_with_nan(x))
+    }
+}
+
+// A whole number.
+impl From<u64> for Answer {
+    fn from(n: u64) -> Answer {
+        Answer::new(&[], &[n])
+    }
+}
+
+impl From<bool> for Answer {
+    fn from(flag: bool) -> Answer {
+        Answer::from(u64::from(flag))
+    }
+}
+
+// A refusal alone.
+impl From<u32> for Answer {
+    fn from(refusal: u32) -> Answer {
+        Answer::from(u64::from(refusal))
+    }
 }

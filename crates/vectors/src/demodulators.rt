@@ -1,18 +1,32 @@
 // FM and AM demodulators.
-use crate::answer::{Answer, of};
+use crate::answer::Answer;
+use crate::case::Case;
+use crate::lent::Five;
 use am::{AmDemodulator, AmDone};
 use fm::{FmDemodulator, FmDone};
 
-pub fn fm_new() -> Answer {
-    frequencies(FmDemodulator::new())
+#[derive(Clone, Copy)]
+pub enum Call {
+    FmNew,
+    FmWithDeemphasis,
+    FmProcessInto,
+    AmNew,
+    AmProcessInto,
 }
 
-pub fn fm_with_deemphasis(s: [f32; 6]) -> Answer {
-    frequencies(fm(s).with_deemphasis(s[3], s[4]))
-}
-
-pub fn fm_process_into(s: [f32; 6], a: &mut [f32], b: &mut [f32]) -> Answer {
-    frequencies(fm(s).process_into(a, b))
+impl Call {
+    pub fn run(self, case: &Case, lent: &mut Five<Vec<f32>>) -> Answer {
+        let s = case.singles;
+        let input = lent.first.as_mut_slice();
+        let output = lent.second.as_mut_slice();
+        match self {
+            Call::FmNew => FmDemodulator::new().into(),
+            Call::FmWithDeemphasis => fm(s).with_deemphasis(s[3], s[4]).into(),
+            Call::FmProcessInto => fm(s).process_into(input, output).into(),
+            Call::AmNew => AmDemodulator::new().into(),
+            Call::AmProcessInto => am(s).process_into(input, output).into(),
+        }
+    }
 }
 
 fn fm(s: [f32; 6]) -> FmDemodulator {
@@ -23,32 +37,31 @@ fn fm(s: [f32; 6]) -> FmDemodulator {
     }
 }
 
-fn frequencies(r: FmDone) -> Answer {
-    let s = r.state;
-    of(
-        [s.last_phase, s.deemph_alpha, s.deemph_state, 0.0, 0.0, 0.0],
-        [r.refusal as u64, r.count as u64, r.struck as u64, 0, 0, 0],
-    )
-}
-
-pub fn am_new() -> Answer {
-    magnitudes(AmDemodulator::new())
-}
-
-pub fn am_process_into(s: [f32; 6], a: &mut [f32], b: &mut [f32]) -> Answer {
-    let state = AmDemodulator {
+fn am(s: [f32; 6]) -> AmDemodulator {
+    AmDemodulator {
         dc_alpha: s[0],
         dc_mean: s[1],
         hp_alpha: s[2],
         hp_state: s[3],
-    };
-    magnitudes(state.process_into(a, b))
+    }
 }
 
-fn magnitudes(r: AmDone) -> Answer {
-    let s = r.state;
-    of(
-        [s.dc_alpha, s.dc_mean, s.hp_alpha, s.hp_state, 0.0, 0.0],
-        [r.refusal as u64, r.count as u64, r.struck as u64, 0, 0, 0],
-    )
+impl From<FmDone> for Answer {
+    fn from(r: FmDone) -> Answer {
+        let s = r.state;
+        Answer::new(
+            &[s.last_phase, s.deemph_alpha, s.deemph_state],
+            &[u64::from(r.refusal), r.count as u64, r.struck as u64],
+        )
+    }
+}
+
+impl From<AmDone> for Answer {
+    fn from(r: AmDone) -> Answer {
+        let s = r.state;
+        Answer::new(
+            &[s.dc_alpha, s.dc_mean, s.hp_alpha, s.hp_state],
+            &[u64::from(r.refusal), r.count as u64, r.struck as u64],
+        )
+    }
 }

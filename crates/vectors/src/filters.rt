@@ -1,51 +1,55 @@
-// Lowpass design and decimator, by the line of the call in data/calls.txt.
-use crate::answer::{Answer, whole};
+// Lowpass design and decimator.
+use crate::answer::Answer;
+use crate::case::Case;
+use crate::lent::Five;
 use decimator::{Decimated, Decimator};
 
-// The calls that are lent taps and history, or taps alone.
-pub fn called(which: u32, s: [f32; 6], p: [u64; 6], a: &mut [f32], b: &mut [f32]) -> Answer {
-    if which == 17 {
-        return whole(lowpass::design_lowpass(a, s[0]) as u64, 0, 0, 0);
+#[derive(Clone, Copy)]
+pub enum Call {
+    DesignLowpass,
+    New,
+    WithFactor,
+    ProcessInto,
+    Reset,
+    UpdateCutoff,
+}
+
+impl Call {
+    // Taps and history are lent, in this order; to `process_into` the input before them and the output after.
+    pub fn run(self, case: &Case, lent: &mut Five<Vec<f32>>) -> Answer {
+        let cutoff = case.singles[0];
+        let state = Decimator {
+            factor: case.patterns[0] as usize,
+            phase: case.patterns[1] as usize,
+        };
+        let a = lent.first.as_mut_slice();
+        let b = lent.second.as_mut_slice();
+        match self {
+            Call::DesignLowpass => lowpass::design_lowpass(a, cutoff).into(),
+            Call::New => Decimator::new(state.factor, cutoff, a, b).into(),
+            Call::WithFactor => Decimator::with_factor(state.factor, a, b).into(),
+            Call::ProcessInto => {
+                let history = lent.third.as_mut_slice();
+                let output = lent.fourth.as_mut_slice();
+                state.process_into(b, history, a, output).into()
+            }
+            Call::Reset => state.reset(a, b).into(),
+            Call::UpdateCutoff => state.update_cutoff(cutoff, a, b).into(),
+        }
     }
-    decimated(changed(which, s[0], p[0] as usize, p[1] as usize, a, b))
 }
 
-fn changed(
-    which: u32,
-    cutoff: f32,
-    factor: usize,
-    phase: usize,
-    a: &mut [f32],
-    b: &mut [f32],
-) -> Decimated {
-    match which {
-        18 => Decimator::new(factor, cutoff, a, b),
-        19 => Decimator::with_factor(factor, a, b),
-        21 => Decimator { factor, phase }.reset(a, b),
-        _ => Decimator { factor, phase }.update_cutoff(cutoff, a, b),
+impl From<Decimated> for Answer {
+    fn from(r: Decimated) -> Answer {
+        let s = r.state;
+        Answer::new(
+            &[],
+            &[
+                u64::from(r.refusal),
+                s.factor as u64,
+                s.phase as u64,
+                r.count as u64,
+            ],
+        )
     }
-}
-
-pub fn processed(
-    p: [u64; 6],
-    input: &mut [f32],
-    taps: &mut [f32],
-    history: &mut [f32],
-    output: &mut [f32],
-) -> Answer {
-    let state = Decimator {
-        factor: p[0] as usize,
-        phase: p[1] as usize,
-    };
-    decimated(state.process_into(taps, history, input, output))
-}
-
-fn decimated(r: Decimated) -> Answer {
-    let s = r.state;
-    whole(
-        r.refusal as u64,
-        s.factor as u64,
-        s.phase as u64,
-        r.count as u64,
-    )
 }

@@ -9,62 +9,52 @@
 mod answer;
 mod calls;
 mod case;
+mod conversions;
 mod demodulators;
 mod filters;
-mod floats;
+mod lent;
 mod levels;
 mod numbers;
 mod oscillator;
 mod replay;
 mod sidebands;
-mod slices;
 mod tally;
 mod words;
-
-ghost use Rattle.std.specs.Prelude.{◌≡◌, ◌≤◌, length, take};
 
 use std::io::Read;
 use std::rt::Files;
 use std::{fs, io};
 
+// The most bytes that are read of either file. What stands past them is left out.
+const NAMES: u64 = 4096;
+
+const ANSWERS: u64 = 262144;
+
 fn main(rt: HostRuntime) {
-    let mut names = [0u8; 4096];
-    let n = load(&rt, "calls.txt", &mut names);
-    let mut file = [0u8; 262144];
-    let m = load(&rt, "answers.txt", &mut file);
-    tally::tell(&rt, &names[..n], &file[..m]);
+    let names = load(&rt, "calls.txt", NAMES);
+    let file = load(&rt, "answers.txt", ANSWERS);
+    if let Err(error) = tally::tell(&rt, names.as_slice(), file.as_slice()) {
+        let _ = fail(&rt, "replay", error.into());
+    }
 }
 
-// So many bytes of the file stand at the buffer's start now.
-fn load(rt: &(impl Files + Eprint + AllocGlobal), path: &str, buffer: &mut [u8]) -> usize
-    ensures within { result ≤ length buffer.new }
-    ensures start { result ≡ length (take result buffer.new) }
-{
+// The bytes of a file. One that cannot be opened is told on descriptor 2, and has none.
+fn load(rt: &(impl Files + Eprint + AllocGlobal), path: &str, most: u64) -> Vec<u8> {
+    let mut bytes = Vec::new(rt.alloc());
     match fs::open(rt, path) {
-        Ok(mut file) => read_full(&mut file, buffer),
+        Ok(file) => {
+            // Where a read fails, the bytes before it are what there is.
+            let _ = file.take(most).read_to_end(&mut bytes);
+        }
         Err(error) => {
             let _ = fail(rt, path, error);
-            0
         }
     }
-}
-
-// Reads until the buffer is full, the input ends or a read fails, and returns how many bytes stand at the buffer's start.
-fn read_full(input: &mut impl Read, buffer: &mut [u8]) -> usize
-    ensures { result ≤ length buffer.new }
-{
-    let mut done = 0;
-    while done < buffer.len() {
-        match input.read(&mut buffer[done..]) {
-            Ok(0) => break,
-            Ok(n) => done += n,
-            Err(_) => break,
-        }
-    }
-    done
+    bytes
 }
 
 // A line on descriptor 2: what failed, and why.
+// Stays: (d) the demo has these two functions too; a library for two programs would be longer than they are.
 fn fail(rt: &(impl Eprint + AllocGlobal), what: &str, error: io::Error) -> io::Result<()> {
     let text = format!(in rt.alloc(); "{error}")?;
     let why = without_number(text.as_str());

@@ -1,50 +1,47 @@
-// The number work, by the line of the call in data/calls.txt.
-use crate::answer::{Answer, of, whole};
-use crate::floats::{double, of_double};
+// The number work.
+use crate::answer::Answer;
+use crate::case::Case;
+use std::num::f64_from_bits_with_nan;
 
-pub fn called(which: u32, s: [f32; 6], p: [u64; 6]) -> Answer {
-    let x = s[0];
-    let y = double(p[0]);
-    if which < 7 {
-        let r = to_single(which, x, s[1], y);
-        return of([r, 0.0, 0.0, 0.0, 0.0, 0.0], [0, 0, 0, 0, 0, 0]);
-    }
-    if which < 12 {
-        return whole(of_double(to_double(which, x, y, double(p[1]))), 0, 0, 0);
-    }
-    whole(to_whole(which, x, y), 0, 0, 0)
+#[derive(Clone, Copy)]
+pub enum Call {
+    Sqrt,
+    Narrow,
+    NarrowAlone,
+    MagnitudeF32,
+    SineF32,
+    CosineF32,
+    ArctangentF32,
+    Widen,
+    MagnitudeF64,
+    Sine,
+    Cosine,
+    Arctangent,
+    Whole,
+    FiniteF32,
+    FiniteF64,
 }
 
-fn to_single(which: u32, x: f32, other: f32, y: f64) -> f32 {
-    match which {
-        0 => root::sqrt(x),
-        1 => number::narrow::narrow(y),
-        2 => number::alone::narrow(y),
-        3 => number::kinds::magnitude_f32(x),
-        4 => angle::single::sine_f32(x),
-        5 => angle::single::cosine_f32(x),
-        _ => angle::single::arctangent_f32(x, other),
+impl Call {
+    pub fn run(self, case: &Case) -> Answer {
+        let x = case.singles[0];
+        let [y, z, ..] = case.patterns.map(|p| f64_from_bits_with_nan(p));
+        match self {
+            Call::Sqrt => root::sqrt(x).into(),
+            Call::Narrow => number::narrow::narrow(y).into(),
+            Call::NarrowAlone => number::alone::narrow(y).into(),
+            Call::MagnitudeF32 => number::kinds::magnitude_f32(x).into(),
+            Call::SineF32 => angle::single::sine_f32(x).into(),
+            Call::CosineF32 => angle::single::cosine_f32(x).into(),
+            Call::ArctangentF32 => angle::single::arctangent_f32(x, case.singles[1]).into(),
+            Call::Widen => number::widen::widen(x).into(),
+            Call::MagnitudeF64 => number::kinds::magnitude_f64(y).into(),
+            Call::Sine => angle::turn::sine(y).into(),
+            Call::Cosine => angle::turn::cosine(y).into(),
+            Call::Arctangent => angle::arc::arctangent(y, z).into(),
+            Call::Whole => (number::whole::whole(x) as u64).into(),
+            Call::FiniteF32 => number::kinds::finite_f32(x).into(),
+            Call::FiniteF64 => number::kinds::finite_f64(y).into(),
+        }
     }
-}
-
-fn to_double(which: u32, x: f32, y: f64, other: f64) -> f64 {
-    match which {
-        7 => number::widen::widen(x),
-        8 => number::kinds::magnitude_f64(y),
-        9 => angle::turn::sine(y),
-        10 => angle::turn::cosine(y),
-        _ => angle::arc::arctangent(y, other),
-    }
-}
-
-fn to_whole(which: u32, x: f32, y: f64) -> u64 {
-    match which {
-        12 => number::whole::whole(x) as u64,
-        13 => flag(number::kinds::finite_f32(x)),
-        _ => flag(number::kinds::finite_f64(y)),
-    }
-}
-
-fn flag(b: bool) -> u64 {
-    if b { 1 } else { 0 }
 }

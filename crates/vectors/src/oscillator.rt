@@ -1,42 +1,47 @@
-// The oscillator, by the line of the call in data/calls.txt.
-use crate::answer::{Answer, of};
-use crate::floats::{double, of_double};
+// The oscillator.
+use crate::answer::Answer;
+use crate::case::Case;
 use nco::{Nco, NcoDone};
+use std::num::{f64_from_bits_with_nan, f64_to_bits_with_nan};
 
-pub fn called(which: u32, p: [u64; 6]) -> Answer {
-    if which == 40 {
-        return turned(Nco::new(double(p[0]), double(p[1])));
-    }
-    if which == 41 {
-        return turned(nco(p).set_freq(double(p[4]), double(p[5])));
-    }
-    turned(nco(p).reset())
+#[derive(Clone, Copy)]
+pub enum Call {
+    New,
+    SetFreq,
+    Mix,
+    Reset,
 }
 
-pub fn mixed(p: [u64; 6], a: &mut [f32]) -> Answer {
-    turned(nco(p).mix(a))
-}
-
-fn nco(p: [u64; 6]) -> Nco {
-    Nco {
-        phase: double(p[0]),
-        phase_inc: double(p[1]),
-        rotator_i: double(p[2]),
-        rotator_q: double(p[3]),
+impl Call {
+    pub fn run(self, case: &Case, samples: &mut [f32]) -> Answer {
+        let [a, b, c, d, e, f] = case.patterns.map(|p| f64_from_bits_with_nan(p));
+        let state = Nco {
+            phase: a,
+            phase_inc: b,
+            rotator_i: c,
+            rotator_q: d,
+        };
+        match self {
+            Call::New => Nco::new(a, b).into(),
+            Call::SetFreq => state.set_freq(e, f).into(),
+            Call::Mix => state.mix(samples).into(),
+            Call::Reset => state.reset().into(),
+        }
     }
 }
 
-fn turned(r: NcoDone) -> Answer {
-    let s = r.state;
-    of(
-        [0.0, 0.0, 0.0, 0.0, 0.0, 0.0],
-        [
-            r.refusal as u64,
-            of_double(s.phase),
-            of_double(s.phase_inc),
-            of_double(s.rotator_i),
-            of_double(s.rotator_q),
-            0,
-        ],
-    )
+impl From<NcoDone> for Answer {
+    fn from(r: NcoDone) -> Answer {
+        let s = r.state;
+        Answer::new(
+            &[],
+            &[
+                u64::from(r.refusal),
+                f64_to_bits_with_nan(s.phase),
+                f64_to_bits_with_nan(s.phase_inc),
+                f64_to_bits_with_nan(s.rotator_i),
+                f64_to_bits_with_nan(s.rotator_q),
+            ],
+        )
+    }
 }

@@ -1,43 +1,54 @@
 // Hilbert filter and SSB demodulator.
-use crate::answer::{Answer, whole};
+use crate::answer::Answer;
+use crate::case::Case;
+use crate::lent::Five;
 use hilbert::{HilbertDone, HilbertFilter};
 use ssb::{SsbDemodulator, SsbDone};
 
-pub fn hilbert_new(a: &mut [f32], b: &mut [f32]) -> Answer {
-    filtered(HilbertFilter::new(a, b))
+#[derive(Clone, Copy)]
+pub enum Call {
+    HilbertNew,
+    HilbertProcessInto,
+    SsbNew,
+    SsbProcessInto,
 }
 
-pub fn hilbert_process_into(
-    input: &mut [f32],
-    taps: &mut [f32],
-    history: &mut [f32],
-    output: &mut [f32],
-) -> Answer {
-    filtered(HilbertFilter::process_into(taps, history, input, output))
+impl Call {
+    // Of the SSB demodulator the histories are lent with Q's first.
+    pub fn run(self, case: &Case, lent: &mut Five<Vec<f32>>) -> Answer {
+        let is_usb = case.patterns[0] != 0;
+        let a = lent.first.as_mut_slice();
+        let b = lent.second.as_mut_slice();
+        let c = lent.third.as_mut_slice();
+        let d = lent.fourth.as_mut_slice();
+        match self {
+            Call::HilbertNew => HilbertFilter::new(a, b).into(),
+            Call::HilbertProcessInto => HilbertFilter::process_into(b, c, a, d).into(),
+            Call::SsbNew => SsbDemodulator::new(is_usb, a, b, c).into(),
+            Call::SsbProcessInto => {
+                let output = lent.fifth.as_mut_slice();
+                let state = SsbDemodulator { is_usb };
+                state.process_into(b, c, d, a, output).into()
+            }
+        }
+    }
 }
 
-fn filtered(r: HilbertDone) -> Answer {
-    whole(r.refusal as u64, r.count as u64, 0, 0)
+impl From<HilbertDone> for Answer {
+    fn from(r: HilbertDone) -> Answer {
+        Answer::new(&[], &[u64::from(r.refusal), r.count as u64])
+    }
 }
 
-pub fn ssb_new(flag: u64, a: &mut [f32], b: &mut [f32], c: &mut [f32]) -> Answer {
-    demodulated(SsbDemodulator::new(flag != 0, a, b, c))
-}
-
-pub fn ssb_process_into(
-    flag: u64,
-    input: &mut [f32],
-    taps: &mut [f32],
-    q_history: &mut [f32],
-    i_history: &mut [f32],
-    output: &mut [f32],
-) -> Answer {
-    let state = SsbDemodulator { is_usb: flag != 0 };
-    demodulated(state.process_into(taps, q_history, i_history, input, output))
-}
-
-fn demodulated(r: SsbDone) -> Answer {
-    let s = r.state;
-    let flag: u64 = if s.is_usb { 1 } else { 0 };
-    whole(r.refusal as u64, flag, r.count as u64, 0)
+impl From<SsbDone> for Answer {
+    fn from(r: SsbDone) -> Answer {
+        Answer::new(
+            &[],
+            &[
+                u64::from(r.refusal),
+                u64::from(r.state.is_usb),
+                r.count as u64,
+            ],
+        )
+    }
 }

@@ -1,67 +1,79 @@
 // How many cases there are of each call and of each number, and how many of them agree.
-use crate::case::after;
-use crate::words::count;
-use crate::{case, replay};
+use crate::calls::Call;
+use crate::case::Case;
+use crate::replay;
+use crate::words::{WORD, words};
+use std::alloc::{AllocError, Global};
+use std::{fmt, io};
 
-// Runs every case of the file and tells the sums.
-pub fn tell(rt: &impl Print, names: &[u8], file: &[u8]) {
-    let mut cases = [0u64; 64];
-    let mut agree = [0u64; 64];
-    run(file, &mut cases, &mut agree);
-    lines(rt, names, &cases, &agree);
+// The lines that are counted, and where among them those of the numbers begin.
+const LINES: usize = 64;
+
+const NUMBERS: usize = 48;
+
+// A name's line of data/calls.txt, with its end.
+const NAME: usize = 32;
+
+// The most cases that are run, so that a file that leads nowhere ends too.
+const CASES: u32 = 5000;
+
+#[derive(Clone, Copy, Default)]
+struct Tally {
+    cases: u64,
+    agree: u64,
 }
 
-// A case ends where the next one begins. The turns see to it that a file that leads nowhere ends too.
-fn run(file: &[u8], cases: &mut [u64; 64], agree: &mut [u64; 64]) {
-    let end = file.len() / 9;
-    let mut k = 0;
-    let mut turns: u32 = 5000;
-    while turns > 0 {
-        turns -= 1;
-        if k < end {
-            k = one(file, k, cases, agree);
+impl Tally {
+    fn add(&mut self, agrees: bool) {
+        self.cases = self.cases.saturating_add(1);
+        self.agree = self.agree.saturating_add(u64::from(agrees));
+    }
+}
+
+impl fmt::Display for Tally {
+    fn fmt<W: fmt::Write>(&self, f: &mut fmt::Formatter<W>) -> fmt::Result {
+        let agree = self.agree;
+        let cases = self.cases;
+        write!(f, "{agree} of {cases} agree")
+    }
+}
+
+// Runs every case of the file and tells the sums, each after its name. Nothing is told of a line that cannot be written.
+pub fn tell(rt: &(impl Print + AllocGlobal), names: &[u8], file: &[u8]) -> Result<(), AllocError> {
+    let tallies = tallies(rt.alloc(), file)?;
+    for (name, tally) in names.chunks_exact(NAME).zip(tallies.iter()) {
+        if tally.cases > 0 {
+            let _ = line(rt, name, *tally);
         }
     }
+    Ok(())
 }
 
-// Where the next case begins.
-fn one(file: &[u8], k: usize, cases: &mut [u64; 64], agree: &mut [u64; 64]) -> usize {
-    let c = case::read(file, k);
-    let is_right = replay::case_agrees(file, c);
-    let call = count(file, k, 0);
-    add(cases, call, true);
-    add(agree, call, is_right);
-    // The numbers have the lines after the calls. The number work has none.
-    let number = 48 + count(file, after(c.answer, c.answer_singles, 1), 0) % 16;
-    add(cases, number, call > 14);
-    add(agree, number, (call > 14) & is_right);
-    c.next
-}
-
-fn add(sums: &mut [u64; 64], i: usize, is_one: bool) {
-    let place = i % 64;
-    if is_one {
-        sums[place] = std::num::wrapping_add_u64(sums[place], 1);
+fn line(rt: &impl Print, name: &[u8], tally: Tally) -> io::Result<()> {
+    if let Some((_, name)) = name.split_last() {
+        rt.write_all(name)?;
     }
+    rt.println(tally)
 }
 
-// Each name has a line of 32 bytes.
-fn lines(rt: &impl Print, names: &[u8], cases: &[u64; 64], agree: &[u64; 64]) {
-    let mut i: usize = 0;
-    while i < 64 {
-        if cases[i] > 0 {
-            line(rt, names, i, agree[i], cases[i]);
+// A case ends where the next one begins.
+fn tallies(alloc: Global, file: &[u8]) -> Result<[Tally; LINES], AllocError> {
+    let words = words(alloc, file)?;
+    let mut tallies = [Tally::default(); LINES];
+    let mut at = 0;
+    for _ in 0..CASES {
+        if at >= file.len() / WORD {
+            break;
         }
-        i += 1;
+        let case = Case::read(words.get(at..).unwrap_or(&[]));
+        let agrees = replay::agrees(alloc, &case)?;
+        tallies[case.line as usize % LINES].add(agrees);
+        // The number work has no refusals.
+        if !matches!(Call::try_from(case.line), Ok(Call::Number(_))) {
+            let number = case.answer.map_or(0, |answer| answer.refusal() % 16);
+            tallies[NUMBERS + number as usize].add(agrees);
+        }
+        at = at.saturating_add(case.words);
     }
-}
-
-// Nothing is told of a line that cannot be written.
-fn line(rt: &impl Print, names: &[u8], i: usize, agree: u64, cases: u64) {
-    let start = 32 * (i % 64);
-    let end = start + 31;
-    if end < names.len() {
-        let _ = rt.write_all(&names[start..end]);
-        let _ = println!(rt; "{agree} of {cases} agree");
-    }
+    Ok(tallies)
 }

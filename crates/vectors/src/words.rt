@@ -1,61 +1,71 @@
 // The words of a file: eight hexadecimal digits each, and one byte after them.
-//
-// A place past the end of the file reads as 0, so nothing here asks anything of the file.
-ghost use Rattle.std.specs.Prelude.{◌<◌, ◌≤◌};
+use std::alloc::{AllocError, Global};
+use std::array;
+use std::num::f32_from_bits_with_nan;
 
-use std::num::wrapping_add_usize;
+// How many bytes a word takes.
+pub const WORD: usize = 9;
 
-// The word that stands i words after the k-th.
-pub fn word(file: &[u8], k: usize, i: usize) -> u32
-    ensures { result < 4294967296 }
-{
-    let at = wrapping_add_usize(k, i);
-    if at < 1000000 {
-        let d = 9 * at;
-        return two(file, d) * 0x100_0000
-            + two(file, d + 2) * 0x1_0000
-            + two(file, d + 4) * 0x100
-            + two(file, d + 6);
-    }
-    0
+// Every word of the file. Of a last one that is cut short, the digits that are missing are 0.
+pub fn words(alloc: Global, file: &[u8]) -> Result<Vec<u32>, AllocError> {
+    file.chunks(WORD).map(word).collect(alloc)
 }
 
-// The same as a count.
-pub fn count(file: &[u8], k: usize, i: usize) -> usize {
-    word(file, k, i) as usize
-}
-
-// This word and the next, which is the higher one.
-pub fn pattern(file: &[u8], k: usize, i: usize) -> u64 {
-    let low = word(file, k, i) as u64;
-    let high = word(file, wrapping_add_usize(k, 1), i) as u64;
-    high * 0x1_0000_0000 + low
-}
-
-fn two(file: &[u8], i: usize) -> u32
-    requires { i < 10000000 }
-    ensures { result ≤ 255 }
-{
-    digit(file, i) * 16 + digit(file, i + 1)
+fn word(bytes: &[u8]) -> u32 {
+    (0..8).fold(0, |word, i| {
+        word << 4 | bytes.get(i).map_or(0, |b| digit(*b))
+    })
 }
 
 // Of a digit or a capital letter; 0 for any other byte.
-fn digit(file: &[u8], i: usize) -> u32
-    ensures { result ≤ 15 }
-{
-    if i >= file.len() {
-        return 0;
+fn digit(byte: u8) -> u32 {
+    match byte {
+        b'0'..=b'9' => u32::from(byte - b'0'),
+        b'A'..=b'F' => u32::from(byte - b'A' + 10),
+        _ => 0,
     }
-    let b = file[i];
-    if b >= b'0' {
-        if b <= b'9' {
-            return (b - b'0') as u32;
-        }
+}
+
+// The word at i, and 0 past the end.
+pub fn at(words: &[u32], i: usize) -> u32 {
+    words.get(i).copied().unwrap_or(0)
+}
+
+// Reads words one after the other. Past the last one each is 0, so nothing here asks anything of a file.
+#[derive(Clone, Copy)]
+pub struct Reader<'a> {
+    rest: &'a [u32],
+}
+
+impl<'a> Reader<'a> {
+    pub fn new(rest: &'a [u32]) -> Reader<'a> {
+        Reader { rest }
     }
-    if b >= b'A' {
-        if b <= b'F' {
-            return (b - b'A') as u32 + 10;
-        }
+
+    pub fn word(&mut self) -> u32 {
+        at(self.take(1), 0)
     }
-    0
+
+    pub fn count(&mut self) -> usize {
+        self.word() as usize
+    }
+
+    // The next n words, or those that are left.
+    pub fn take(&mut self, n: usize) -> &'a [u32] {
+        let (taken, rest) = self.rest.split_at(n.min(self.rest.len()));
+        self.rest = rest;
+        taken
+    }
+
+    // The first six of n singles. Where there are fewer, 0.0 stands in the places that are left.
+    pub fn singles(&mut self, n: usize) -> [f32; 6] {
+        let told = self.take(n);
+        array::from_fn(|i| f32_from_bits_with_nan(at(told, i)))
+    }
+
+    // The same of patterns. Each is two words, the higher one second.
+    pub fn patterns(&mut self, n: usize) -> [u64; 6] {
+        let told = self.take(n.saturating_mul(2));
+        array::from_fn(|i| u64::from(at(told, 2 * i + 1)) << 32 | u64::from(at(told, 2 * i)))
+    }
 }

@@ -1,24 +1,8 @@
--- `converter::convert` meets its contract: filled where nothing is refused, and untouched else. Assumes nothing.
-use mathlib.Core.Path.{sym, ◌∙◌}
-use lib.ListN.{length}
-use Rattle.converter.specs.Convert.{samples, refusal_of}
-use Rattle.stage.proofs.Refusals.{run_answers, refused_answers}
-use Rattle.converter.proofs.Accepted.{accepted}
+-- `converter::convert` meets its contract: in pairs, with Q as it is, every byte is converted. Assumes nothing.
+use mathlib.Core.Path.{◌∙◌}
+use Rattle.converter.specs.Convert.{sample_of}
+use Rattle.converter.proofs.Accepted.{plain_converted}
 use Rattle.converter.proofs.convert.Goals as goal
 
-pub fill-requires : goal.fill-requires
-fill-requires c =
-    let a = c.args in
-    (accepted (length a.src.now) (length a.dst.now) (sym c.refusal-number.ensures ∙ c.if-number-eq-NONE.true)).0
-
-pub returns-then-number-eq-NONE : goal.returns-then-number-eq-NONE
-returns-then-number-eq-NONE c =
-    let src = c.args.src.now in
-    let dst = c.args.dst.now in
-    run_answers c.refusal-number.result (refusal_of (length src) (length dst)) (samples src) dst c.refusal-number.ensures c.fill.new.dst c.fill.ensures c.if-number-eq-NONE.true
-
-pub returns-else-number-eq-NONE : goal.returns-else-number-eq-NONE
-returns-else-number-eq-NONE c =
-    let src = c.args.src.now in
-    let dst = c.args.dst.now in
-    refused_answers c.refusal-number.result (refusal_of (length src) (length dst)) (samples src) dst c.refusal-number.ensures c.if-number-eq-NONE.false
+pub returns : goal.returns
+returns c = c.convert_by.ensures sample_of (λ s r b e. e) ∙ plain_converted c.args.src.now c.args.dst.now

@@ -1,27 +1,31 @@
--- `converter::fill` meets its contract. The loop's invariant: the places before i hold the values of the bytes before i, and those of the rest are to come. The measure is the bytes left. Assumes nothing.
-use Prim.Native.Nat.{◌≤◌, ◌<◌}
+-- `converter::fill` meets its contract: a turn writes the next pair. Assumes nothing.
+use Prim.Native.Nat.{◌+◌, ◌*◌, ◌≤◌, ◌<◌}
 use native.Mathlib.Omega.{arith}
-use mathlib.Core.Path.{sym, ◌∙◌}
-use lib.ListN.{length, drop_of_length-le, length-set, length-map}
-use Rattle.stage.proofs.Filling.{filling_begins, filling_turns, filling_ends, next_mapped}
-use Rattle.converter.specs.Convert.{sample_of, samples}
-use borrow.Author.Rules.{rules}
+use mathlib.Core.Path.{◌≡◌, sym, ◌∙◌}
+use lib.ListN.{length, get_or, drop_of_length-le}
+use Rattle.stage.proofs.Filling.{filling_begins, filling_turns, filling_ends}
+use Rattle.converter.specs.Convert.{in_pairs}
+use Rattle.converter.proofs.Values.{pairs_length, next_pair}
 use Rattle.converter.proofs.fill.Goals as goal
 
-pub loop-i-init : goal.loop-i-init
-loop-i-init c =
+pub loop-k-init : goal.loop-k-init
+loop-k-init g c f h =
     let src = c.args.src.now in
-    (c.requires, search rules, filling_begins (samples src) c.args.dst.now (c.requires ∙ sym (length-map src sample_of)))
+    filling_begins (in_pairs f src) c.args.dst.now (c.requires.lengths.0 ∙ sym (pairs_length f src c.requires.lengths.1))
 
-pub loop-i-preserved : goal.loop-i-preserved
-loop-i-preserved c =
-    let l = c.loop-i in
+pub loop-k-preserved : goal.loop-k-preserved
+loop-k-preserved g c f h =
+    let l = c.loop-k in
     let src = c.args.src.now in
-    let h : l.i < length src = omega arith in
-    (simp length-set l.invariant.0, search rules, rw c.sample.ensures (filling_turns (rw (next_mapped sample_of src l.i 0 h) at l.invariant.2)))
+    let here : 2 * l.k + 1 < length src = omega arith in
+    let byte : get_or src (2 * l.k + 1) 0 < 256 = omega (arith, c.type_inv.src (2 * l.k + 1)) in
+    let e₁ : 2 * (l.k + 1) ≡ 2 * l.k + 1 + 1 = omega arith in
+    let e₂ : 2 * l.k + 2 ≡ 2 * l.k + 1 + 1 = omega arith in
+    rw (h _ c.of_q.result byte c.of_q.ensures, c.sample.ensures, e₁)
+    (filling_turns (filling_turns (rw (next_pair f src (2 * l.k) here, e₂) at (l.invariant f h))))
 
 pub returns : goal.returns
-returns c =
+returns g c f h =
     let src = c.args.src.now in
-    let h : length src ≤ c.loop-i.i = omega arith in
-    filling_ends (rw (drop_of_length-le src h) at c.loop-i.invariant.2)
+    let past : length src ≤ 2 * c.loop-k.k = omega (arith, c.requires.lengths) in
+    filling_ends {out = c.loop-k.dst} (rw (drop_of_length-le src past) at (c.loop-k.invariant f h))

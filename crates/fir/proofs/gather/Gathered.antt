@@ -1,124 +1,68 @@
--- Samples seen: those of two lists in a row from a place on, gathered or where they lie, give the outputs of the two in a row. Assumes nothing.
+-- Samples of two lists in a row, from a place on: as the code reads or copies them, and the sums over them. Assumes nothing.
 use mathlib.Core.Path.{◌≡◌, sym, ap, ◌∙◌}
 use mathlib.Core.List.{List, ◌++◌}
-use mathlib.Core.Logic.{⊎_elim}
 use Prim.Native.Nat.{ℕ, ◌+◌, ◌-◌, ◌*◌, ◌≤◌, ◌<◌}
-use native.Mathlib.Nat.{sub-zero, zero-add}
+use native.Mathlib.Nat.{add-mul, zero-add}
 use native.Mathlib.Omega.{arith}
-use lib.ListN.{length, get_or, take, drop, length-drop, get_or-append}
-use lib.Seq.{get_or-drop, get_or-take, get_or-append-add, length-take-le, ext_get_or}
-use lib.Ieee.{Float, nan}
+use lib.ListN.{length, take, drop, length-drop}
+use lib.Seq.{take_at, drop-append-add, drop-append-le, take-append-add}
+use lib.Ieee.{Float}
+use borrow.Rule.Slice.PartMut.{put_mid}
+use Rattle.std.proofs.lemmas.List.{drop-take, drop-drop, take-take, take_rest}
 use Rattle.stage.specs.Floats.{plus_zero}
 use Rattle.fir.specs.Dot.{dot_from}
-use Rattle.fir.specs.Written.{placed, element, dot_at, dots_from, Seen}
-use Rattle.fir.proofs.Counting.{lt_or_ge}
+use Rattle.stage.specs.Counted.{counted, counted_from}
+use Rattle.stage.proofs.Counted.{counted_same}
+use Rattle.fir.specs.Written.{dot_at, dots_of}
 use Rattle.fir.proofs.Places.{window_fits}
-use Rattle.fir.proofs.Placed.{placed_length, placed_same, placed_in, placed_before}
+use Rattle.fir.proofs.Grown.{put_tail}
 use Rattle.fir.proofs.dot.Products.{dot_window}
 
--- the element at k of two lists in a row, where it lies in the second
-pub get_d_second : (xs ys : List Float) (k : ℕ) → length xs ≤ k → get_or (xs ++ ys) k nan ≡ get_or ys (k - length xs) nan
-get_d_second xs ys k h =
-    let e : k ≡ length xs + (k - length xs) = omega arith in
-    ap (λ (m : ℕ). get_or (xs ++ ys) m nan) e ∙ get_or-append-add xs ys (k - length xs) nan
+-- the part `&l[a..a + n]` of the second, as the rule for it has it
+pub part_second : (h x : List Float) (at n : ℕ) → length h ≤ at
+    → take (at - length h + n - (at - length h)) (drop (at - length h) x) ≡ take n (drop at (h ++ x))
+part_second h x at n le =
+    let e : at - length h + n - (at - length h) ≡ n = omega arith in
+    let place : length h + (at - length h) ≡ at = omega arith in
+    rw (e, ← drop-append-add h x (at - length h), place)
 
--- two parts in a row: the end of the history from `from` on, and the start of the input
-pub seen_gathered : (hist input e₀ e₁ e₂ : List Float) (from k rest n : ℕ) → from + k ≡ length hist → k + rest ≡ n → n ≤ length e₀ → rest ≤ length input
-    → e₁ ≡ placed (element (drop from hist)) e₀ 0 k → e₂ ≡ placed (element (take rest input)) e₁ k rest
-    → Seen e₂ (hist ++ input) from n
-seen_gathered hist input e₀ e₁ e₂ from k rest n hk hn room more is₁ is₂ i lt =
-    ⊎_elim
-    (λ l.
-    let z : 0 + i ≡ i = omega arith in
-    let at_first : get_or (placed (element (drop from hist)) e₀ 0 k) (0 + i) nan ≡ get_or (drop from hist) i nan =
-    placed_in (element (drop from hist)) e₀ 0 k i l (omega arith) in
-    rw is₂
-    (placed_before (element (take rest input)) e₁ k rest i l
-    ∙ rw is₁ (rw z at at_first)
-    ∙ get_or-drop from hist i nan
-    ∙ sym (get_or-append hist input nan (from + i) (omega arith))))
-    (λ g.
-    let le : k ≤ i = g in
-    let e : k + (i - k) ≡ i = omega arith in
-    let long : k + rest ≤ length e₁ = rw (is₁, placed_length) (omega arith) in
-    let at_second : get_or (placed (element (take rest input)) e₁ k rest) (k + (i - k)) nan ≡ get_or (take rest input) (i - k) nan =
-    placed_in (element (take rest input)) e₁ k rest (i - k) (omega arith) long in
-    let place : from + i - length hist ≡ i - k = omega arith in
-    rw is₂
-    (rw e at at_second
-    ∙ get_or-take rest input (i - k) nan (omega arith)
-    ∙ sym (get_d_second hist input (from + i) (omega arith) ∙ ap (λ (m : ℕ). get_or input m nan) place)))
-    (lt_or_ge i k)
+-- n elements across the two, one part behind the other: as many as e has
+pub across_is : (h x e : List Float) (at : ℕ) → at ≤ length h → length h ≤ at + length e → at + length e ≤ length h + length x
+    → let k = length h - at in
+    let e₁ = take k (drop at h) ++ drop k e in
+    put_mid k (length e₁ - k) e₁ (take (length e - k) x) ≡ take (length e) (drop at (h ++ x))
+across_is h x e at le short long =
+    let k = length h - at in
+    let ys = drop at h in
+    let zs = take (length e - k) x in
+    let long : length ys ≡ k = length-drop at h in
+    let n : length e ≡ length ys + (length e - k) = omega arith in
+    let whole : take (length e) (drop at (h ++ x)) ≡ ys ++ zs =
+    ap (take (length e)) (drop-append-le at h x le) ∙ ap (λ (m : ℕ). take m (ys ++ x)) n ∙ take-append-add ys x (length e - k) in
+    rw (take_rest h at, whole) (put_tail k (ys ++ drop k e) zs ∙ ap (λ (l : List Float). l ++ zs) (take_at ys (drop k e) k long))
 
--- a window of what is seen is the window of ext
-pub seen_window : (x ext : List Float) (from n b t : ℕ) → Seen x ext from n → n ≤ length x → from + n ≤ length ext → b + t ≤ n
-    → take t (drop b x) ≡ take t (drop (from + b) ext)
-seen_window x ext from n b t seen long fit has =
-    let lx : length (take t (drop b x)) ≡ t = length-take-le t (drop b x) (rw length-drop (omega arith)) in
-    let ly : length (take t (drop (from + b) ext)) ≡ t = length-take-le t (drop (from + b) ext) (rw length-drop (omega arith)) in
-    ext_get_or nan (take t (drop b x)) (take t (drop (from + b) ext)) (lx ∙ sym ly)
-    (λ i lt.
-    let e : from + (b + i) ≡ from + b + i = omega arith in
-    let in-t : i < t = omega arith in
-    get_or-take t (drop b x) i nan in-t
-    ∙ get_or-drop b x i nan
-    ∙ seen (b + i) (omega arith)
-    ∙ ap (λ (m : ℕ). get_or ext m nan) e
-    ∙ sym (get_or-take t (drop (from + b) ext) i nan in-t ∙ get_or-drop (from + b) ext i nan))
+-- a window of n elements from a place on is a window of all
+pub window_of : (ext : List Float) (at n b t : ℕ) → b + t ≤ n → take t (drop b (take n (drop at ext))) ≡ take t (drop (at + b) ext)
+window_of ext at n b t fit =
+    let e : n ≡ b + (n - b) = omega arith in
+    ap (λ (m : ℕ). take t (drop b (take m (drop at ext)))) e
+    ∙ ap (take t) (drop-take b (n - b) (drop at ext))
+    ∙ take-take t (n - b) (drop b (drop at ext)) (omega arith)
+    ∙ ap (take t) (drop-drop b at ext)
 
--- and so is its sum
-dot_seen : (ts x ext : List Float) (from n b : ℕ) → Seen x ext from n → n ≤ length x → from + n ≤ length ext → b + length ts ≤ n
-    → dot_at ts x b ≡ dot_at ts ext (from + b)
+-- so is its sum
+pub dot_part : (ts ext : List Float) (at n b : ℕ) → b + length ts ≤ n → dot_at ts (take n (drop at ext)) b ≡ dot_at ts ext (at + b)
 unfolding dot_at
-dot_seen ts x ext from n b seen long fit has =
-    sym (dot_window plus_zero (drop b x) ts)
-    ∙ ap (λ (w : List Float). dot_from plus_zero w ts) (seen_window x ext from n b (length ts) seen long fit has)
-    ∙ dot_window plus_zero (drop (from + b) ext) ts
+dot_part ts ext at n b fit =
+    sym (dot_window plus_zero (drop b (take n (drop at ext))) ts)
+    ∙ ap (λ (w : List Float). dot_from plus_zero w ts) (window_of ext at n b (length ts) fit)
+    ∙ dot_window plus_zero (drop (at + b) ext) ts
 
--- so outputs over what is seen are the outputs of ext
-pub placed_seen : (ts x ext o : List Float) (f from j m n : ℕ) → Seen x ext from n → n ≤ length x → from + n ≤ length ext → n + f ≡ m * f + length ts
-    → placed (dots_from ts x f 0) o j m ≡ placed (dots_from ts ext f from) o j m
-placed_seen ts x ext o f from j m n seen long fit is =
-    placed_same (dots_from ts x f 0) (dots_from ts ext f from) o j m
-    (λ l lt. rw zero-add (dot_seen ts x ext from n (l * f) seen long fit (window_fits f l m (length ts) n lt (omega arith))))
-
--- the part `&l[a..a + n]`, as the rule for it has it
-pub part_length : (l : List Float) (a n : ℕ) → a + n ≤ length l → length (take (a + n - a) (drop a l)) ≡ n
-part_length l a n fit =
-    let e : a + n - a ≡ n = omega arith in
-    rw e (length-take-le n (drop a l) (rw length-drop (omega arith)))
-
--- such a part of the input is seen
-pub seen_part : (hist input : List Float) (from a n : ℕ) → from ≡ length hist + a → Seen (take (a + n - a) (drop a input)) (hist ++ input) from n
-seen_part hist input from a n is i lt =
-    let e : a + n - a ≡ n = omega arith in
-    let place : from + i - length hist ≡ a + i = omega arith in
-    rw e
-    (get_or-take n (drop a input) i nan lt
-    ∙ get_or-drop a input i nan
-    ∙ sym (get_d_second hist input (from + i) (omega arith) ∙ ap (λ (m : ℕ). get_or input m nan) place))
-
--- and so is a copy of what is seen
-pub seen_copy : (x ext e₀ e₁ : List Float) (from n : ℕ) → Seen x ext from n → length x ≡ n → n ≤ length e₀ → e₁ ≡ placed (element x) e₀ 0 (length x)
-    → Seen e₁ ext from n
-seen_copy x ext e₀ e₁ from n seen long room is i lt =
-    let read : get_or (placed (element x) e₀ 0 (length x)) (0 + i) nan ≡ get_or x i nan =
-    placed_in (element x) e₀ 0 (length x) i (omega arith) (omega arith) in
-    rw is (rw zero-add at read) ∙ seen i lt
-
--- and so is a part `&e[0..n]` of what sees
-pub seen_front : (e ext : List Float) (from n : ℕ) → Seen e ext from n → Seen (take (n - 0) (drop 0 e)) ext from n
-seen_front e ext from n seen i lt = rw sub-zero (get_or-take n e i nan lt ∙ seen i lt)
-
-pub front_length : (l : List Float) (n : ℕ) → n ≤ length l → length (take (n - 0) (drop 0 l)) ≡ n
-front_length l n fit = rw sub-zero (length-take-le n l fit)
-
--- `seen_gathered` over the parts as the code has them
-pub seen_copied : (hist input e₀ e₁ e₂ xs ys : List Float) (from k rest n : ℕ) → from + k ≡ length hist → k + rest ≡ n → n ≤ length e₀ → rest ≤ length input
-    → xs ≡ drop from hist → ys ≡ take rest input
-    → e₁ ≡ placed (element xs) e₀ 0 (length xs) → e₂ ≡ placed (element ys) e₁ k (length ys)
-    → Seen e₂ (hist ++ input) from n
-seen_copied hist input e₀ e₁ e₂ xs ys from k rest n hk hn room more ex ey is₁ is₂ =
-    let lx : length (drop from hist) ≡ k = rw length-drop (omega arith) in
-    let ly : length (take rest input) ≡ rest = length-take-le rest input more in
-    seen_gathered hist input e₀ e₁ e₂ from k rest n hk hn room more (is₁ ∙ rw (ex, lx)) (is₂ ∙ rw (ey, ly))
+-- and so are m of them, `f` apart, the first at output j's place
+pub dots_part : (ts ext : List Float) (phase f j at m n : ℕ) → at ≡ phase + j * f → n + f ≡ m * f + length ts
+    → counted (dots_of ts (take n (drop at ext)) f) m ≡ counted_from (λ (i : ℕ). dot_at ts ext (phase + i * f)) j m
+dots_part ts ext phase f j at m n is span =
+    counted_same _ _ 0 j m
+    (λ l lt.
+    let place : at + l * f ≡ phase + (j + l) * f = omega (arith, add-mul j l f) in
+    rw (zero-add, ← place) (dot_part ts ext at n (l * f) (window_fits f l m (length ts) n lt (omega arith))))

@@ -1,11 +1,9 @@
--- `dc_remover::DcRemover::block_pairs` meets its contract: a trial whose outputs are all finite gave what the run gives. Assumes nothing.
-use native.Mathlib.Omega.{arith}
-use mathlib.Core.Path.{◌≡◌, sym, ◌∙◌}
-use lib.ListN.{length}
-use borrow.Author.Tests.{eq-eqb}
+-- `dc_remover::DcRemover::block_pairs` meets its contract: where the trial does not tell, the work is a run over pairs. Assumes nothing.
+use Rattle.stage.proofs.Gives.{pairs_ran}
+use Rattle.dc_remover.specs.Process.{pair_stage}
 use Rattle.dc_remover.proofs.DcRemover.block_pairs.Goals as goal
 
 pub returns : goal.returns
 returns c =
-    let fits : length c.try_pairs-after.new.z ≡ length c.args.«data».now = omega arith in
-    rw (c.answer.ensures, c.copy.ensures, eq-eqb _ _ fits) (c.try_pairs-after.ensures (sym c.all_finite.ensures ∙ c.if-not-all_finite.false))
+    let run = c.run_pairs.ensures in
+    pairs_ran pair_stage _ c.args.«data».now c.requires run.left run.state run.struck

@@ -1,59 +1,52 @@
--- `dc_remover::DcRemover::process` meets its contract: its loop goes on by a block whose run is the definition's, and where the number refuses nothing is done. Assumes nothing.
-use Prim.Native.Nat.{◌-◌, ◌%◌}
+-- `dc_remover::DcRemover::process` meets its contract: its loop goes on by a block whose run is the definition's. Assumes nothing.
+use Prim.Native.Nat.{◌+◌, ◌-◌, ◌*◌, ◌%◌, min}
+use native.Mathlib.Numerals.{unary_clauses}
 use native.Mathlib.Omega.{arith}
-use mathlib.Core.Path.{◌≡◌, refl, ◌∙◌}
+use mathlib.Core.Path.{◌≡◌, ◌∙◌}
 use lib.ListN.{length, take, drop, length-drop}
 use lib.Seq.{length-take-le}
 use borrow.Author.Tests.{eqb-true, eq-eqb}
-use Rattle.stage.specs.Lent.{interleaved}
-use Rattle.stage.proofs.Gives.{gives_refused, accepted_even, gives_ran}
-use Rattle.stage.proofs.InParts.{interleaved_row, part_begins, part_few, part_turns, part_ends}
-use Rattle.dc_remover.specs.Process.{given, pair_stage}
 use borrow.Author.Rules.{rules}
+use Rattle.stage.specs.Lent.{interleaved}
+use Rattle.stage.specs.Call.{gave}
+use Rattle.stage.proofs.Gives.{accepted_even, met_gives}
+use Rattle.stage.proofs.InParts.{interleaved_row, part_begins, part_few, part_turns, part_ends}
+use Rattle.dc_remover.specs.Process.{pair_stage}
 use Rattle.dc_remover.proofs.DcRemover.process.Goals as goal
 
-pub returns-then-refusal-ne-NONE : goal.returns-then-refusal-ne-NONE
-returns-then-refusal-ne-NONE c =
-    let s = c.args in
-    rw c.answer.ensures
-    (gives_refused pair_stage interleaved s.self s.«data».now c.number-refusal.result (c.number-refusal.ensures ∙ rw (c.even.ensures, c.within.ensures)) c.if-refusal-ne-NONE.true)
+pub loop-b-init : goal.loop-b-init
+loop-b-init c = simp unary_clauses (part_begins pair_stage interleaved (interleaved_row pair_stage) _ _)
 
-pub loop-k-init : goal.loop-k-init
-loop-k-init c =
-    let s = c.args in
-    let whole = accepted_even pair_stage interleaved s.self s.«data».now c.number-refusal.result (c.number-refusal.ensures ∙ rw (c.even.ensures, c.within.ensures)) c.if-refusal-ne-NONE.false in
-    (refl, eqb-true _ _ whole, part_begins pair_stage interleaved (interleaved_row pair_stage) _ _)
-
-pub block_pairs-done-requires : goal.block_pairs-done-requires
-block_pairs-done-requires c =
-    let l = c.loop-k in
-    let e = c.shorter-e.result in
-    let size = length-take-le (e - l.k) (drop l.k l.«data») (rw length-drop (omega arith)) in
-    let even : length (take (e - l.k) (drop l.k l.«data»)) % 2 ≡ 0 = omega arith in
-    eq-eqb _ _ even
+pub block_pairs-ran-requires : goal.block_pairs-ran-requires
+block_pairs-ran-requires c =
+    let l = c.loop-b in
+    let end = c.min-end.result in
+    let size = length-take-le (end - 32 * l.b) (drop (32 * l.b) l.«data») (rw length-drop (omega arith)) in
+    let met = rw (c.within.ensures, c.even.ensures) at c.in_default.ensures in
+    let whole = eqb-true _ _ (accepted_even pair_stage interleaved c.args.self c.args.«data».now met) in
+    eq-eqb (length (take (end - 32 * l.b) (drop (32 * l.b) l.«data»)) % 2) 0 (omega arith)
 
 pub overflow_add-struck : goal.overflow_add-struck
 overflow_add-struck c =
-    let l = c.loop-k in
-    let e = c.shorter-e.result in
-    let size = length-take-le (e - l.k) (drop l.k l.«data») (rw length-drop (omega arith)) in
-    let few = part_few pair_stage interleaved (interleaved_row pair_stage) l.self (take (e - l.k) (drop l.k l.«data»)) (given c.block_pairs-done.result c.block_pairs-done.new.data) c.block_pairs-done.ensures in
+    let ran = c.block_pairs-ran in
+    let few = part_few pair_stage interleaved (interleaved_row pair_stage) c.loop-b.self _ (gave ran.result.state ran.result.struck ran.new.«data») ran.ensures in
     search rules
 
-pub loop-k-preserved : goal.loop-k-preserved
-loop-k-preserved c =
-    let l = c.loop-k in
-    let e = c.shorter-e.result in
-    let size = length-take-le (e - l.k) (drop l.k l.«data») (rw length-drop (omega arith)) in
-    let even : length (take (e - l.k) (drop l.k l.«data»)) % 2 ≡ 0 = omega arith in (
-      omega arith,
-      l.invariant.1,
-      part_turns pair_stage interleaved (interleaved_row pair_stage) e (given c.block_pairs-done.result c.block_pairs-done.new.data) l.invariant.2 (omega arith) (omega arith)
-          (eq-eqb _ _ even) c.block_pairs-done.ensures (c.block_pairs-done.auto.data ∙ size),
-    )
+pub loop-b-preserved : goal.loop-b-preserved
+loop-b-preserved c =
+    let l = c.loop-b in
+    let end = c.min-end.result in
+    let ran = c.block_pairs-ran in
+    let size = length-take-le (end - 32 * l.b) (drop (32 * l.b) l.«data») (rw length-drop (omega arith)) in
+    let met = rw (c.within.ensures, c.even.ensures) at c.in_default.ensures in
+    let whole = eqb-true _ _ (accepted_even pair_stage interleaved c.args.self c.args.«data».now met) in
+    let even : length (take (end - 32 * l.b) (drop (32 * l.b) l.«data»)) % 2 ≡ 0 = omega arith in
+    let here : min (32 * l.b) (length c.args.«data».now) ≡ 32 * l.b = omega arith in
+    let there : min (32 * (l.b + 1)) (length c.args.«data».now) ≡ end = omega arith in
+    rw there
+    (part_turns pair_stage interleaved (interleaved_row pair_stage) end (gave ran.result.state ran.result.struck ran.new.«data») (rw here at l.invariant) (omega arith) (omega arith) (eq-eqb _ _ even) ran.ensures (ran.auto.«data» ∙ size))
 
 pub returns : goal.returns
 returns c =
     let s = c.args in
-    rw c.answer-2.ensures
-    (gives_ran pair_stage interleaved s.self s.«data».now c.number-refusal.result (c.number-refusal.ensures ∙ rw (c.even.ensures, c.within.ensures)) _ c.if-refusal-ne-NONE.false (part_ends pair_stage interleaved (interleaved_row pair_stage) c.loop-k.invariant.2 c.loop-k-test.false))
+    rw c.answer-2.ensures (met_gives pair_stage interleaved s.self s.«data».now (rw (c.within.ensures, c.even.ensures) at c.in_default.ensures) (part_ends pair_stage interleaved (interleaved_row pair_stage) c.loop-b.invariant (omega arith)))

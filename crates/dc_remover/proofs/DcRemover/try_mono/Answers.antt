@@ -13,7 +13,7 @@ loop-k-init c = trial_begins mono_answer plus_zero (λ s. Unit) (λ x. x) _ _ _ 
 pub loop-k-preserved : goal.loop-k-preserved
 loop-k-preserved c =
     let l = c.loop-k in
-    rw c.blend-mean.ensures (trial_turns mono_answer plus_zero (λ s. Unit) (λ x. x) nan l.invariant c.loop-k-test.true (λ f u. (mono_kept l.self _ f, tt)))
+    rw c.mono_kept-out.ensures (trial_turns mono_answer plus_zero (λ s. Unit) (λ x. x) nan l.invariant c.loop-k-test.true (λ f u. (mono_kept l.self _ f, tt)))
 
 pub returns : goal.returns
 returns c a =

@@ -1,25 +1,18 @@
 -- `dc_remover::DcRemover::try_pairs` meets its contract: its loop is that of a trial over interleaved pairs. Assumes nothing.
-use native.Mathlib.Omega.{arith}
-use lib.ListN.{length-set}
 use lib.Ieee.{nan}
 use Rattle.stage.specs.Floats.{plus_zero}
-use borrow.Author.Tests.{eqb-true}
 use Rattle.stage.proofs.Trial.{pair_trial_begins, pair_trial_turns, pair_trial_ends}
 use Rattle.dc_remover.specs.Step.{pair_answer}
 use Rattle.dc_remover.proofs.Tried.{pair_kept}
 use Rattle.dc_remover.proofs.DcRemover.try_pairs.Goals as goal
 
 pub loop-k-init : goal.loop-k-init
-loop-k-init c = pair_trial_begins pair_answer (plus_zero, plus_zero) _ _ _ c.requires.0 (eqb-true _ _ c.requires.1)
-
-pub bounds-z-k-in-loop-k : goal.bounds-z-k-in-loop-k
-bounds-z-k-in-loop-k c = simp length-set (omega arith)
+loop-k-init c = pair_trial_begins pair_answer (plus_zero, plus_zero) _ _ _ c.requires.0 c.requires.1
 
 pub loop-k-preserved : goal.loop-k-preserved
 loop-k-preserved c =
     let l = c.loop-k in
-    rw (c.blend-mean_i.ensures, c.blend-mean_q.ensures)
-    (pair_trial_turns pair_answer (plus_zero, plus_zero) nan l.invariant c.loop-k-test.true (pair_kept l.self _))
+    rw c.pair_kept.ensures (pair_trial_turns pair_answer (plus_zero, plus_zero) nan l.invariant c.loop-k-test.true (pair_kept l.self _))
 
 pub returns : goal.returns
 returns c a =

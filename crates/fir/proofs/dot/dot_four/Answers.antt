@@ -1,29 +1,31 @@
--- `fir::dot::dot_four` meets its contract: the invariant of `dot_from`, once for each sum. Assumes nothing.
-use mathlib.Core.Path.{refl, sym, ◌∙◌}
+-- `fir::dot::dot_four` meets its contract. Assumes nothing.
 use native.Mathlib.Omega.{arith}
-use lib.ListN.{drop}
-use Rattle.fir.proofs.dot.Products.{dot_step, dot_done}
+use Prim.Native.Nat.{◌+◌, ◌*◌, ◌≤◌}
+use native.Mathlib.Nat.{mul-le-mul_right}
+use Rattle.fir.proofs.lanes.Carried.{lanes_start, plain_turn, lanes_done}
+use mathlib.Core.Path.{refl}
+use Rattle.fir.specs.Written.{dots_of}
+use Rattle.fir.proofs.Grown.{first_lanes, grown}
 use Rattle.fir.proofs.dot.dot_four.Goals as goal
 
 pub loop-i-init : goal.loop-i-init
-loop-i-init c = (refl, refl, refl, refl)
+loop-i-init c = (refl, lanes_start 4 c.args.ts.now c.args.x.now c.args.factor 0)
 
 pub loop-i-preserved : goal.loop-i-preserved
 loop-i-preserved c =
     let l = c.loop-i in
-    let a = c.args in (
-      sym (dot_step l.a a.xa.now a.ts.now l.i (omega arith) (omega arith)) ∙ l.invariant.0,
-      sym (dot_step l.b a.xb.now a.ts.now l.i (omega arith) (omega arith)) ∙ l.invariant.1,
-      sym (dot_step l.c a.xc.now a.ts.now l.i (omega arith) (omega arith)) ∙ l.invariant.2,
-      sym (dot_step l.d a.xd.now a.ts.now l.i (omega arith) (omega arith)) ∙ l.invariant.3,
-    )
+    let t = c.turn in
+    (t.ensures.0, plain_turn c.args.ts.now c.args.x.now c.args.factor l.i (omega arith) l.sums t.new.acc l.invariant.1 t.ensures.1)
 
 pub returns : goal.returns
 returns c =
     let l = c.loop-i in
-    let a = c.args in (
-      sym (dot_done l.a (drop l.i a.xa.now) a.ts.now l.i (omega arith)) ∙ l.invariant.0,
-      sym (dot_done l.b (drop l.i a.xb.now) a.ts.now l.i (omega arith)) ∙ l.invariant.1,
-      sym (dot_done l.c (drop l.i a.xc.now) a.ts.now l.i (omega arith)) ∙ l.invariant.2,
-      sym (dot_done l.d (drop l.i a.xd.now) a.ts.now l.i (omega arith)) ∙ l.invariant.3,
-    )
+    let f = c.args.factor in
+    let x = c.args.x.now in
+    let t = c.args.ts.now in
+    grown (dots_of t x f) l.sums 0 4
+    (first_lanes (dots_of t x f) l.sums 0 4 (omega arith)
+    (λ k h.
+    let most : (0 + k) * f ≤ 3 * f = mul-le-mul_right f (omega arith) in
+    lanes_done 4 t x f 0 l.sums l.i (omega arith) l.invariant.1 k h (omega (arith, c.requires))))
+    (omega arith)

@@ -1,12 +1,9 @@
--- `fir::dot::dot_from` meets its contract. The invariant: the sum so far, carried on over what is left of both lists, is the whole sum. Assumes nothing.
-use mathlib.Core.Path.{refl, sym, ◌∙◌}
+-- `fir::dot::dot_from` meets its contract. Assumes nothing.
+use mathlib.Core.Path.{sym, ◌∙◌}
 use native.Mathlib.Omega.{arith}
 use lib.ListN.{drop}
 use Rattle.fir.proofs.dot.Products.{dot_step, dot_done}
 use Rattle.fir.proofs.dot.dot_from.Goals as goal
-
-pub loop-i-init : goal.loop-i-init
-loop-i-init c = refl
 
 pub loop-i-preserved : goal.loop-i-preserved
 loop-i-preserved c =

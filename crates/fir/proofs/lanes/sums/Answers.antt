@@ -1,13 +1,14 @@
--- `fir::lanes::sums` meets its contract. The loop's invariant: each lane's sum so far, carried on over what is left of its window, is its output; p and k are the plane and the row of the next sample. Assumes nothing.
-use mathlib.Core.Path.{◌≡◌}
+-- `fir::lanes::sums` meets its contract. Assumes nothing.
+use mathlib.Core.Path.{◌≡◌, refl}
 use Prim.Native.Nat.{ℕ, ◌+◌, ◌*◌, ◌≤◌, ◌<◌}
 use native.Mathlib.Omega.{arith}
-use lib.ListN.{length}
 use native.Mathlib.Nat.{add-mul, one-mul}
-use Rattle.fir.proofs.lanes.Carried.{lanes_start, lanes_step, lanes_done}
+use lib.ListN.{length}
+use Rattle.fir.proofs.lanes.Carried.{lanes_start, planes_turn, lanes_done}
 use Rattle.fir.proofs.planes.Copied.{row_below}
 use borrow.Author.Rules.{rules}
 use Rattle.fir.proofs.lanes.sums.Goals as goal
+use Rattle.fir.proofs.lanes.sums.Goals.{then-p-factor, else-p-factor}
 
 -- 32 lanes from row k on are in the planes, where tap i's sample lies in plane p
 row : (k q p i n factor : ℕ) → k * factor + p ≡ q * factor + i → i < n → n ≤ 16 * factor + 1 → q ≤ 64 → p < factor → k + 32 ≤ 128
@@ -15,48 +16,31 @@ row k q p i n factor e l m b h =
     let below : k < q + 17 = row_below k factor (q + 17) (omega (arith, add-mul q 17 factor)) in
     omega arith
 
-pub loop-i-init : goal.loop-i-init
-loop-i-init c =
+pub loop-tap-init : goal.loop-tap-init
+loop-tap-init c =
     let a = c.args in
-    (search rules, search rules, search rules, search rules, lanes_start a.taps.now a.x.now a.factor a.q)
+    (search rules, search rules, refl, lanes_start 32 a.taps.now a.x.now a.factor a.q)
 
 pub overflow_add-p : goal.overflow_add-p
-overflow_add-p c = let r = row c.loop-i.k c.args.q c.loop-i.p c.loop-i.i (length c.args.taps.now) c.args.factor c.loop-i.invariant.2 (omega arith) (omega arith) (omega arith) c.loop-i.invariant.1 in omega arith
+overflow_add-p c = let l = c.loop-tap in let r = row l.k c.args.q l.p l.tap-index (length c.args.taps.now) c.args.factor l.invariant.1 (omega arith) (omega arith) (omega arith) l.invariant.0 in omega arith
 
 pub turn-requires : goal.turn-requires
-turn-requires c = let r = row c.loop-i.k c.args.q c.loop-i.p c.loop-i.i (length c.args.taps.now) c.args.factor c.loop-i.invariant.2 (omega arith) (omega arith) (omega arith) c.loop-i.invariant.1 in (omega arith, omega arith)
+turn-requires c = let l = c.loop-tap in let r = row l.k c.args.q l.p l.tap-index (length c.args.taps.now) c.args.factor l.invariant.1 (omega arith) (omega arith) (omega arith) l.invariant.0 in (search rules, (omega arith, omega arith, omega arith, omega arith))
 
-pub overflow_add-k : goal.overflow_add-k
-overflow_add-k c = let r = row c.loop-i.k c.args.q c.loop-i.p c.loop-i.i (length c.args.taps.now) c.args.factor c.loop-i.invariant.2 (omega arith) (omega arith) (omega arith) c.loop-i.invariant.1 in omega arith
-
-pub loop-i-preserved-then-p-factor : goal.loop-i-preserved-then-p-factor
-loop-i-preserved-then-p-factor c =
-    let l = c.loop-i in
+pub loop-tap-preserved : goal.loop-tap-preserved
+loop-tap-preserved c =
+    let l = c.loop-tap in
     let a = c.args in
-    let r = row c.loop-i.k c.args.q c.loop-i.p c.loop-i.i (length c.args.taps.now) c.args.factor c.loop-i.invariant.2 (omega arith) (omega arith) (omega arith) c.loop-i.invariant.1 in (
-      search rules,
-      search rules,
-      omega (arith, add-mul l.k 1 a.factor, one-mul a.factor),
-      c.turn.ensures.0,
-      lanes_step a.z.now a.taps.now a.x.now a.factor a.q l.p l.k l.i c.requires.filled.1 l.invariant.1 r l.invariant.2 (omega arith)
-          l.acc c.turn.new.acc l.invariant.4 c.turn.ensures.1,
-    )
-
-pub loop-i-preserved : goal.loop-i-preserved
-loop-i-preserved c =
-    let l = c.loop-i in
-    let a = c.args in
-    let r = row c.loop-i.k c.args.q c.loop-i.p c.loop-i.i (length c.args.taps.now) c.args.factor c.loop-i.invariant.2 (omega arith) (omega arith) (omega arith) c.loop-i.invariant.1 in (
-      search rules,
-      omega arith,
-      omega arith,
-      c.turn.ensures.0,
-      lanes_step a.z.now a.taps.now a.x.now a.factor a.q l.p l.k l.i c.requires.filled.1 l.invariant.1 r l.invariant.2 (omega arith)
-          l.acc c.turn.new.acc l.invariant.4 c.turn.ensures.1,
-    )
+    let r = row l.k a.q l.p l.tap-index (length a.taps.now) a.factor l.invariant.1 (omega arith) (omega arith) (omega arith) l.invariant.0 in
+    let lanes = planes_turn a.z.now a.taps.now a.x.now a.factor a.q l.p l.k l.tap-index c.requires.filled.1 l.invariant.0 r l.invariant.1 (omega arith)
+    l.acc c.turn.new.acc l.invariant.3 c.turn.ensures.1 in
+    elim c.if-p-factor.branch [
+      then-p-factor w ↦ (omega (arith, w.p-is), rw (w.p-is, w.k-is) (omega (arith, w.if-p-factor.true, add-mul l.k 1 a.factor, one-mul a.factor)), c.turn.ensures.0, lanes)
+      | else-p-factor w ↦ (omega (arith, w.p-is, w.if-p-factor.false), rw (w.p-is, w.k-is) (omega arith), c.turn.ensures.0, lanes)
+    ]
 
 pub returns : goal.returns
 returns c =
-    let l = c.loop-i in
+    let l = c.loop-tap in
     let a = c.args in
-    lanes_done a.taps.now a.x.now a.factor a.q l.acc l.i (omega arith) l.invariant.4
+    (l.invariant.2, lanes_done 32 a.taps.now a.x.now a.factor a.q l.acc l.tap-index (omega arith) l.invariant.3)

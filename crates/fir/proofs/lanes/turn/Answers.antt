@@ -1,20 +1,24 @@
--- `fir::lanes::turn` meets its contract. The loop's invariant: the lanes before l have taken the tap, the others have not. Assumes nothing.
+-- `fir::lanes::turn` meets its contract. Assumes nothing.
+use Prim.Native.Nat.{◌+◌, ◌*◌, ◌≤◌}
+use native.Mathlib.Nat.{add-mul, one-mul, mul-le-mul_right}
 use native.Mathlib.Omega.{arith}
+use mathlib.Core.Path.{◌∙◌}
 use lib.ListN.{length-set}
 use Rattle.fir.proofs.lanes.Turning.{turning_start, turning_step}
-use borrow.Author.Rules.{rules}
 use Rattle.fir.proofs.lanes.turn.Goals as goal
 
 pub loop-l-init : goal.loop-l-init
-loop-l-init c = (search rules, search rules, turning_start _ _ _ _)
+loop-l-init g c = (c.requires.0, turning_start _ _ _ _ _)
+
+pub bounds-x-place : goal.bounds-x-place
+bounds-x-place g c =
+    let more : (c.loop-l.l + 1) * c.args.step ≤ g.row.N * c.args.step = mul-le-mul_right c.args.step (omega arith) in
+    omega (arith, c.requires, add-mul c.loop-l.l 1 c.args.step, one-mul c.args.step)
 
 pub loop-l-preserved : goal.loop-l-preserved
-loop-l-preserved c =
+loop-l-preserved g c =
     let l = c.loop-l in
-    let a = c.args in
-    (search rules, simp length-set l.invariant.1, turning_step a.acc.now a.z.now a.place a.tap l.acc l.l l.invariant.2 (omega arith))
+    (length-set _ _ _ ∙ l.invariant.0, turning_step _ _ _ _ _ l.acc l.l l.invariant.1 (omega arith))
 
 pub returns : goal.returns
-returns c =
-    let l = c.loop-l in
-    (l.invariant.1, λ m h. l.invariant.2.done m (omega arith))
+returns g c = (c.loop-l.invariant.0, λ m h. c.loop-l.invariant.1.done m (omega arith))

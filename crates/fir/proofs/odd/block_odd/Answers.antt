@@ -1,32 +1,21 @@
--- `fir::odd::block_odd` meets its contract. The loop's invariant: the first g outputs are written. Assumes nothing.
-use mathlib.Core.Path.{◌≡◌, refl, ◌∙◌}
-use native.Mathlib.Nat.{zero-add}
+-- `fir::odd::block_odd` meets its contract. Assumes nothing.
+use mathlib.Core.Path.{◌∙◌}
+use Prim.Native.Nat.{◌-◌, ◌*◌}
 use native.Mathlib.Omega.{arith}
-use Rattle.fir.specs.Written.{placed, element, odds_from}
-use Rattle.fir.proofs.Placed.{placed_group}
-use borrow.Author.Rules.{rules}
+use lib.ListN.{length}
+use Rattle.fir.specs.Written.{odd_at}
+use Rattle.fir.proofs.Grown.{first_lanes, grows_to, all_grown}
 use Rattle.fir.proofs.odd.block_odd.Goals as goal
 
-pub loop-g-init : goal.loop-g-init
-unfolding placed
-loop-g-init c = (search rules, refl, refl)
-
-pub loop-g-smaller : goal.loop-g-smaller
-loop-g-smaller c = omega (arith, c.least-n.ensures.2 (omega arith) (omega arith))
-
-pub loop-g-preserved : goal.loop-g-preserved
-loop-g-preserved c =
-    let l = c.loop-g in
-    let a = c.args in (
-      omega arith,
-      c.put.auto.output ∙ l.invariant.1,
-      c.put.ensures
-          ∙ placed_group (element c.odd_sums-acc.result) (odds_from a.taps.now a.x.now 0) a.output.now l.output a.j l.g
-          c.least-n.result l.invariant.2 (λ i h. rw zero-add (c.odd_sums-acc.ensures i (omega arith))),
-    )
+pub loop-b-preserved : goal.loop-b-preserved
+loop-b-preserved c =
+    let l = c.loop-b in
+    let g = 32 * l.b in
+    let v = odd_at c.args.taps.now c.args.x.now in
+    let end = c.min-end.result in
+    let acc = c.odd_sums-acc in
+    let ys = c.copy_from_slice.ensures.after ∙ first_lanes v acc.result g (end - g) (omega (arith, acc.ensures)) (λ i h. acc.ensures.1 i (omega arith)) in
+    grows_to v l.output _ g l.auto.output l.invariant c.copy_from_slice.new.self 32 end _ (omega arith) (omega arith) (omega arith) ys
 
 pub returns : goal.returns
-returns c =
-    let l = c.loop-g in
-    let e : l.g ≡ c.args.m = omega arith in
-    rw e at l.invariant.2
+returns c = let l = c.loop-b in all_grown _ l.output _ (32 * l.b) l.auto.output l.invariant (omega arith)

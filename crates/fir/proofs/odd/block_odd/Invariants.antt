@@ -1,12 +1,10 @@
--- `fir::odd::block_odd` meets its contract. The loop's invariant: the first g outputs are written. Assumes nothing.
+-- `fir::odd::block_odd` meets its contract. The loop's invariant: the outputs of the blocks before b are written. Assumes nothing.
 use mathlib.Core.Path.{◌≡◌}
-use Prim.Native.Nat.{◌-◌, ◌≤◌}
-use lib.ListN.{length}
-use Rattle.fir.specs.Written.{placed, odds_from}
+use Prim.Native.Nat.{min, ◌*◌}
+use lib.ListN.{length, take}
+use Rattle.stage.specs.Counted.{counted}
+use Rattle.fir.specs.Written.{odd_at}
 use Rattle.fir.proofs.odd.block_odd.Given as goal
 
-abbrev pub invariant-loop-g : goal.invariant-loop-g
-invariant-loop-g l = (l.g ≤ l.m) × (length l.output ≡ length l.initial.output) × (l.output ≡ placed (odds_from l.taps l.x 0) l.initial.output l.j l.g)
-
-abbrev pub decreases-loop-g : goal.decreases-loop-g
-decreases-loop-g l = l.m - l.g
+abbrev pub invariant-loop-b : goal.invariant-loop-b
+invariant-loop-b l = (take (32 * l.b) l.output ≡ counted (odd_at l.taps l.x) (min (32 * l.b) (length l.initial.output)))

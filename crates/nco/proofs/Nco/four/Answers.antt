@@ -1,45 +1,27 @@
--- `nco::Nco::four` meets its contract: a sum that is a number allows the casts, each pair is mixed by its own turn, and the eight are narrowed at once. Assumes nothing.
-use mathlib.Core.Path.{sym, ap, ◌∙◌}
-use mathlib.Core.Bool.{false≢true}
-use lib.Ieee.{binary32}
-use Rattle.number.specs.declared.eight.Eight.{Eight}
-use Rattle.number.specs.Eight.{sum_of}
-use Rattle.number.proofs.Nan.{is_number, Numbers, numbers}
+-- `nco::Nco::four` meets its contract (`Ahead.antt`). Assumes nothing.
+use Rattle.std.proofs.Common.{rules, ◌≡◌, ◌*◌, ◌+◌, refl, sym, ap, ◌∙◌, arith, [], length}
+use lib.ListN.{length-set}
 use Rattle.number.proofs.Eights.{eight_narrows}
-use Rattle.nco.specs.Mix.{Spin, mixed_at, spun}
-use Rattle.nco.proofs.Ahead.{narrows_pair}
+use Rattle.nco.proofs.Ahead.{widened_begins, widened_turns, widened_ends}
 use Rattle.nco.proofs.Nco.four.Goals as goal
-use Rattle.nco.proofs.Nco.four.Goals.{Else-sum}
 
--- what is known once the sum is a number, in the sum's order
-known : (c : Else-sum) → (let a = c.args in Numbers a.i0 a.q0 a.i2 a.q2 a.i1 a.q1 a.i3 a.q3)
-known c = let a = c.args in numbers binary32 a.i0 a.q0 a.i2 a.q2 a.i1 a.q1 a.i3 a.q3 (is_number (sum_of binary32 a.i0 a.q0 a.i2 a.q2 a.i1 a.q1 a.i3 a.q3) c.if-sum.false)
+pub loop-k-init : goal.loop-k-init
+loop-k-init c = (refl, widened_begins c.args.self [] c.args.iq c.args.first)
 
-pub returns-then-sum : goal.returns-then-sum
-returns-then-sum c h = absurd (false≢true (sym (ap (λ (r : Eight). r.near) c.none.ensures) ∙ h))
-
-pub wide-a-requires : goal.wide-a-requires
-wide-a-requires c = let k = known c in (k.n0, k.n1)
-
-pub wide-b-requires : goal.wide-b-requires
-wide-b-requires c = let k = known c.before.before in (k.n4, k.n5)
-
-pub wide-c-requires : goal.wide-c-requires
-wide-c-requires c = let k = known c.before.before.before.before in (k.n2, k.n3)
-
-pub wide-d-requires : goal.wide-d-requires
-wide-d-requires c = let k = known c.before.before.before.before.before.before in (k.n6, k.n7)
+pub loop-k-preserved : goal.loop-k-preserved
+loop-k-preserved c =
+    let l = c.loop-k in
+    let a = c.args in
+    let eight : length a.iq ≡ 8 = search rules in (
+      simp length-set l.invariant.0,
+      rw c.next-turn.ensures
+          (widened_turns a.self l.wide a.iq (2 * l.k) (2 * (l.k + 1)) l.turn _ _ (omega arith) (omega (arith, l.invariant.0, c.loop-k-test.true)) (omega (arith, eight, c.loop-k-test.true)) c.wide_mixed-pair.ensures ∙ l.invariant.1),
+    )
 
 pub returns : goal.returns
-returns c h =
+returns c =
+    let l = c.loop-k in
     let a = c.args in
-    let n = eight_narrows _ _ _ _ _ _ _ _ _ c.narrow.ensures h in
-    let e1 = c.next-t1.ensures in
-    let e2 = c.next-t2.ensures ∙ ap (spun a.self) e1 in
-    let e3 = c.next-t3.ensures ∙ ap (spun a.self) e2 in
-    record {
-      first = narrows_pair _ _ _ _ _ _ c.wide-a.ensures n.n0 n.n1;
-      second = narrows_pair _ _ _ _ _ _ c.wide-b.ensures n.n2 n.n3 ∙ ap (λ (t : Spin). mixed_at t (a.i1, a.q1)) e1;
-      third = narrows_pair _ _ _ _ _ _ c.wide-c.ensures n.n4 n.n5 ∙ ap (λ (t : Spin). mixed_at t (a.i2, a.q2)) e2;
-      fourth = narrows_pair _ _ _ _ _ _ c.wide-d.ensures n.n6 n.n7 ∙ ap (λ (t : Spin). mixed_at t (a.i3, a.q3)) e3;
-    }
+    let eight : length a.iq ≡ 8 = search rules in
+    rw (eight_narrows l.wide c.in_ok-near.near (sym c.in_ok-near.was ∙ c.narrow.ensures))
+    (sym (widened_ends a.self l.wide a.iq (2 * l.k) l.turn (omega (arith, l.invariant.0, c.loop-k-test.false)) (omega (arith, eight, c.loop-k-test.false))) ∙ l.invariant.1)

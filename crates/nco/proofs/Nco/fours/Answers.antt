@@ -1,46 +1,28 @@
--- `nco::Nco::fours` meets its contract: a place leads to the same end as the one before (`Ahead.antt`). The measure is what is left of the slice. Assumes nothing.
-use mathlib.Core.Path.{◌≡◌, refl, sym, ◌∙◌}
-use mathlib.Core.Bool.{Bool, true, false, not}
-use lib.ListN.{length, length-set}
-use Rattle.nco.specs.Blocks.{spin_of}
-use Rattle.nco.proofs.Ahead.{room_for, fewer_left, still_even, farther, ahead_four}
-use borrow.Author.Rules.{rules}
+-- `nco::Nco::fours` meets its contract (`Ahead.antt`). Assumes nothing.
+use Rattle.std.proofs.Common.{rules, ◌≡◌, ◌*◌, ◌+◌, ◌/◌, ◌-◌, ◌≤◌, ℕ, List, take, drop, refl, sym, ap, ◌∙◌, arith, length, subst}
+use lib.ListN.{length-drop}
+use lib.Ieee.{Float}
+use lib.Seq.{take_all}
+use Rattle.std.specs.Array.{IsFirstChunk}
+use borrow.Rule.Slice.PartMut.{put_mid}
+use Rattle.nco.specs.Blocks.{ahead}
+use Rattle.nco.proofs.Ahead.{ahead_eight}
 use Rattle.nco.proofs.Nco.fours.Goals as goal
 
-is-near : (b : Bool) → not b ≡ false → b ≡ true
-is-near true e = refl
-is-near false e = sym e
-
-pub loop-iq-init : goal.loop-iq-init
-loop-iq-init c = (search rules, refl, search rules, refl, refl)
-
-pub returns-then-not-four : goal.returns-then-not-four
-returns-then-not-four c =
-    let l = c.loop-iq.invariant in
-    record { place = (l.2, l.0, l.3); same_rest = l.4 }
-
-pub loop-iq-smaller : goal.loop-iq-smaller
-loop-iq-smaller c =
-    let l = c.loop-iq in
-    simp length-set (fewer_left l.k (length l.iq) (room_for l.k (length l.iq) l.invariant.0 c.loop-iq-test.true))
-
-pub loop-iq-preserved : goal.loop-iq-preserved
-loop-iq-preserved c =
-    let l = c.loop-iq in
+pub loop-eight-preserved : goal.loop-eight-preserved
+loop-eight-preserved c =
+    let l = c.loop-eight in
     let a = c.args in
-    let y = c.four-four.result in
-    let m = c.four-four.ensures (is-near y.near c.if-not-four.false) in
-    -- a turn has eight elements before it
-    let r = room_for l.k (length l.iq) l.invariant.0 c.loop-iq-test.true in (
-      simp length-set r,
-      simp length-set l.invariant.1,
-      farther _ _ l.invariant.2,
-      still_even _ _ l.invariant.3,
-      rw (c.next-turn.ensures, c.next-in-loop-iq-2.ensures, c.next-in-loop-iq.ensures, c.next.ensures)
-          (ahead_four a.self l.iq l.k (spin_of l.turn) y.y0 y.y1 y.y2 y.y3 y.y4 y.y5 y.y6 y.y7 r m.first m.second m.third m.fourth ∙ l.invariant.4),
+    let k = 2 * l.place.k in
+    let n : 2 * l.place.k + 8 - 2 * l.place.k ≡ 8 = omega arith in
+    let rest : take (length l.iq - k) (drop k l.iq) ≡ drop k l.iq = take_all (length l.iq - k) (drop k l.iq) (rw length-drop (omega arith)) in
+    let chunk : IsFirstChunk (drop k l.iq) c.in-Some.eight.now 8 = subst (λ (r : List Float). IsFirstChunk r c.in-Some.eight.now 8) rest c.in-Some.ensures.cases in
+    let room : 2 * l.place.k + 8 ≤ length l.iq = omega (arith, rw length-drop at chunk.enough) in
+    let same : length (put_mid (2 * l.place.k) (2 * l.place.k + 8 - 2 * l.place.k) l.iq c.copy_from_slice.new.self) ≡ length l.iq = search rules in
+    let mixed : (c.in-Some-four.mixed.0, c.in-Some-four.mixed.1) ≡ ahead a.self (take 8 (drop k l.iq)) 0 l.place.turn = c.in-Some-four.ensures ∙ ap (λ (e : List Float). ahead a.self e 0 l.place.turn) chunk.same in
+    let long : length c.in-Some-four.mixed.0 ≡ 8 = search rules in (
+      omega (arith, l.invariant.0),
+      omega (arith, same, room),
+      same ∙ l.invariant.2,
+      rw c.copy_from_slice.ensures.after (ahead_eight a.self l.iq c.in-Some-four.mixed.0 _ k (2 * (l.place.k + 4)) l.place.turn c.in-Some-four.mixed.1 (omega arith) room (ap (λ (m : ℕ). drop m (drop k l.iq)) n) long mixed ∙ l.invariant.3),
     )
-
-pub returns : goal.returns
-returns c =
-    let l = c.loop-iq.invariant in
-    record { place = (l.2, l.0, l.3); same_rest = l.4 }

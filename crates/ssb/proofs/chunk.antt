@@ -1,2 +1,0 @@
--- What the Hilbert filter leaves where SSB calls it.
-pub mod Summing

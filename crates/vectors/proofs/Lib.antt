@@ -1,2 +1,0 @@
--- A law on patterns that both widths of `floats` cite.
-mod Patterns

@@ -1,8 +1,0 @@
--- `vectors::floats::double` is safe: a pattern that is read as a float has at most the infinity's magnitude. Assumes nothing.
-use Rattle.std.proofs.Common.{arith}
-use lib.Ieee.{binary64}
-use Rattle.vectors.proofs.Patterns.{number_pattern}
-use Rattle.vectors.proofs.floats.double.Goals as goal
-
-pub float_from_bits-result : goal.float_from_bits-result
-float_from_bits-result c = number_pattern binary64 c.args.bits (omega arith)

@@ -1,9 +1,0 @@
--- `vectors::tally::lines` is safe and ends. The measure is how many lines are left. Assumes nothing.
-use Rattle.std.proofs.Common.{◌-◌, ◌≤◌}
-use Rattle.vectors.proofs.tally.lines.Given as goal
-
-abbrev pub invariant-loop-i : goal.invariant-loop-i
-invariant-loop-i g l = l.i ≤ 64
-
-abbrev pub decreases-loop-i : goal.decreases-loop-i
-decreases-loop-i g l = 64 - l.i
