@@ -22,7 +22,7 @@ impl AudioAgc {
         ensures { (after : AudioAgc) → result ≡ Some after → gave after 0 (map clamp_one z.new) ≡ ran audio_stage mono self «data».now }
     {
         let mut at = self;
-        // Stays: one `for` over the samples is half as slow again, since each envelope then waits for a select.
+        // Stays: one `for` over all samples takes half as long again (measured), since each envelope then waits for a select.
         let mut k = 0;
         while k < data.len() {
             while falls(data, k, at.envelope) {
