@@ -1,4 +1,4 @@
--- Laws of the conversions: what an accepted call knows, and the inverted values one pair at a time.
+-- Laws of the conversions: what an accepted call knows, the values pair by pair and sixteen at a time, and that division by -127.5 negates.
 pub mod Accepted
 pub mod Values
 pub mod Sixteen
