@@ -28,7 +28,7 @@ impl DcRemover {
 
     // Whole pairs, 16 at a time. The state comes by its fields, in registers: a struct would be stored field by field
     // and both means read back at once, and such a read waits until the stores are through.
-    // Stays: with `self` in their place pairs take 2 % longer and the split call 7 %, below its bar of 0.95 (measured).
+    // Stays: with `self` in their place pairs take 2 % longer and the split call 7 % (measured); its bar, 0.95, is near.
     pub(crate) fn block_pairs(
         alpha: f32,
         avg_i: f32,
