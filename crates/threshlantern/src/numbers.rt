@@ -9,6 +9,8 @@ ghost use Rattle.root.specs.Root.{rooted};
 ghost use Rattle.angle.specs.Turn.{sined, cosined};
 ghost use Rattle.angle.specs.Arc.{arctan};
 
+use number::kinds::Real;
+
 #[unsafe(no_mangle)]
 pub extern "C" fn tl_sqrt(x: f32) -> f32
     ensures { result ≡ rooted binary32 x }
@@ -49,28 +51,28 @@ pub extern "C" fn tl_whole(x: f32) -> usize
 pub extern "C" fn tl_finite_f32(x: f32) -> bool
     ensures { result ≡ finite x }
 {
-    number::kinds::finite_f32(x)
+    x.finite()
 }
 
 #[unsafe(no_mangle)]
 pub extern "C" fn tl_finite_f64(x: f64) -> bool
     ensures { result ≡ finite x }
 {
-    number::kinds::finite_f64(x)
+    x.finite()
 }
 
 #[unsafe(no_mangle)]
 pub extern "C" fn tl_magnitude_f32(x: f32) -> f32
     ensures { result ≡ absolute x }
 {
-    number::kinds::magnitude_f32(x)
+    x.magnitude()
 }
 
 #[unsafe(no_mangle)]
 pub extern "C" fn tl_magnitude_f64(x: f64) -> f64
     ensures { result ≡ absolute x }
 {
-    number::kinds::magnitude_f64(x)
+    x.magnitude()
 }
 
 #[unsafe(no_mangle)]
