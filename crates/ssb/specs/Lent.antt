@@ -1,7 +1,7 @@
 -- What a call of the SSB demodulator works with: its histories, and that the places stay those that were lent. No public contract cites it. Definitions only.
 use Rattle.std.specs.Prelude.{◌≡◌, length}
 use Rattle.ssb.specs.Sideband.{Histories, histories}
-use Rattle.ssb.specs.declared.run.Lent.{Lent}
+use Rattle.ssb.specs.declared.lent.Lent.{Lent}
 
 -- the histories of Q and I, as they stand
 abbrev pub held : Lent → Histories

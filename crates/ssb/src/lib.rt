@@ -9,6 +9,7 @@
 // function here has a `requires`.
 #![tactic(auto)]
 
+mod lent;
 mod making;
 mod mixing;
 mod processing;

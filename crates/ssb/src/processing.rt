@@ -2,7 +2,7 @@
 ghost use Rattle.std.specs.Prelude.{◌≡◌};
 ghost use Rattle.ssb.specs.Process.{processed};
 
-use crate::run::Lent;
+use crate::lent::Lent;
 use crate::{SsbDemodulator, SsbDone};
 
 impl SsbDemodulator {

@@ -2,23 +2,15 @@
 ghost use Rattle.std.specs.Prelude.{◌≡◌, ◌+◌, ◌≤◌, length};
 ghost use Rattle.stage.specs.Layout.{pairs, over};
 ghost use Rattle.ssb.specs.Sideband.{ssb_outs, ssb_end};
-ghost use Rattle.ssb.specs.Ready.{Ready, Block};
+ghost use Rattle.ssb.specs.Ready.{Block};
 ghost use Rattle.ssb.specs.Lent.{Same, held};
 
-// What a call works with: the sideband, the taps and the histories of Q and I.
-#[derive(Drop)]
-pub(crate) struct Lent<'t, 'h> {
-    pub(crate) is_usb: bool,
-    pub(crate) taps: &'t [f32],
-    pub(crate) q_history: &'h mut [f32],
-    pub(crate) i_history: &'h mut [f32],
-}
+use crate::lent::Lent;
 
 impl Lent<'_, '_> {
     // The outputs of all pairs, at the start of `output`.
     pub(crate) fn run(&mut self, input: &[f32], output: &mut [f32])
-        requires ready { Ready (length self.old.taps.now) (length self.old.q_history.now) (length self.old.i_history.now) }
-        requires block { Block (length input.now) (length output.old) }
+        requires { Block (length input.now) (length output.old) }
         ensures same { Same self.old self.new }
         ensures outputs { output.new ≡ over (ssb_outs self.old.is_usb self.old.taps.now (held self.old) (pairs input.now)) output.old }
         ensures histories_after { held self.new ≡ ssb_end (held self.old) (pairs input.now) }
@@ -34,7 +26,6 @@ impl Lent<'_, '_> {
     // Up to 256 pairs, as many as the output has places: I and Q taken apart, Q through the Hilbert filter, I delayed and
     // mixed in.
     fn chunk(&mut self, input: &[f32], output: &mut [f32])
-        requires ready { Ready (length self.old.taps.now) (length self.old.q_history.now) (length self.old.i_history.now) }
         requires lengths { (length input.now ≡ length output.old + length output.old) × (length output.old ≤ 256) }
         ensures same { Same self.old self.new }
         ensures outputs { output.new ≡ ssb_outs self.old.is_usb self.old.taps.now (held self.old) (pairs input.now) }
@@ -48,7 +39,6 @@ impl Lent<'_, '_> {
 
     // The same, with room for as many I and Q.
     fn demodulate(&mut self, input: &[f32], i: &mut [f32], q: &mut [f32], output: &mut [f32])
-        requires ready { Ready (length self.old.taps.now) (length self.old.q_history.now) (length self.old.i_history.now) }
         requires lengths { (length input.now ≡ length output.old + length output.old) × (length output.old ≤ 256) }
         requires halves { (length i.old ≡ length output.old) × (length q.old ≡ length output.old) }
         ensures same { Same self.old self.new }

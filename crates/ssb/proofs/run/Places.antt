@@ -1,6 +1,6 @@
 -- What a call works with stays the same over calls in a row. Assumes nothing.
 use mathlib.Core.Path.{◌∙◌}
-use Rattle.ssb.specs.declared.run.Lent.{Lent}
+use Rattle.ssb.specs.declared.lent.Lent.{Lent}
 use Rattle.ssb.specs.Lent.{Same}
 
 pub same_again : {a b c : Lent} → Same a b → Same b c → Same a c

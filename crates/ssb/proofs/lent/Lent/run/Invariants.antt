@@ -1,11 +1,11 @@
--- `ssb::run::Lent::run` meets its contract. The loop's invariant: the outputs of the pairs before chunk k are written, and from the histories
+-- `ssb::lent::Lent::run` meets its contract. The loop's invariant: the outputs of the pairs before chunk k are written, and from the histories
 -- as they are the rest gives the rest. Assumes nothing.
 use Prim.Native.Nat.{◌*◌, ◌/◌}
 use lib.ListN.{length}
 use Rattle.std.proofs.Common.{min}
 use Rattle.ssb.specs.Lent.{Same, held}
 use Rattle.ssb.proofs.run.Chunks.{Chunks}
-use Rattle.ssb.proofs.run.Lent.run.Given as goal
+use Rattle.ssb.proofs.lent.Lent.run.Given as goal
 
 abbrev pub invariant-loop-k : goal.invariant-loop-k
 invariant-loop-k l =

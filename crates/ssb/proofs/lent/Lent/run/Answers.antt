@@ -1,4 +1,4 @@
--- `ssb::run::Lent::run` meets its contract: a chunk more keeps what the loop knows. Assumes nothing.
+-- `ssb::lent::Lent::run` meets its contract: a chunk more keeps what the loop knows. Assumes nothing.
 use Prim.Native.Nat.{◌+◌, ◌-◌, ◌*◌, ◌/◌, ◌<◌, min}
 use native.Mathlib.Omega.{arith}
 use mathlib.Core.Path.{◌≡◌}
@@ -6,7 +6,7 @@ use lib.ListN.{length}
 use Rattle.ssb.specs.Lent.{held}
 use Rattle.ssb.proofs.run.Chunks.{chunks_go_on, chunks_end}
 use Rattle.ssb.proofs.run.Places.{same_again}
-use Rattle.ssb.proofs.run.Lent.run.Goals as goal
+use Rattle.ssb.proofs.lent.Lent.run.Goals as goal
 
 pub loop-k-preserved : goal.loop-k-preserved
 loop-k-preserved c =
@@ -31,9 +31,9 @@ loop-k-preserved c =
 pub returns-clause-outputs : goal.returns-clause-outputs
 returns-clause-outputs c =
     let a = c.args in
-    (chunks_end a.self.now.is_usb a.self.now.taps.now c.loop-k.invariant.chunks (omega (arith, c.div_ceil-k-end.ensures, c.requires.block))).0
+    (chunks_end a.self.now.is_usb a.self.now.taps.now c.loop-k.invariant.chunks (omega (arith, c.div_ceil-k-end.ensures, c.requires))).0
 
 pub returns-clause-histories_after : goal.returns-clause-histories_after
 returns-clause-histories_after c =
     let a = c.args in
-    (chunks_end a.self.now.is_usb a.self.now.taps.now c.loop-k.invariant.chunks (omega (arith, c.div_ceil-k-end.ensures, c.requires.block))).1
+    (chunks_end a.self.now.is_usb a.self.now.taps.now c.loop-k.invariant.chunks (omega (arith, c.div_ceil-k-end.ensures, c.requires))).1
