@@ -21,6 +21,7 @@ impl Feedback<(f32, f32), (f32, f32)> for Agc {
     }
 }
 
+// Stays: one line here and in `am`; a function for both would stand in a third crate.
 fn magnitude(i: f32, q: f32) -> f32
     ensures { result ≡ magnitude_of i q }
 {

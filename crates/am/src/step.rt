@@ -28,6 +28,7 @@ impl Feedback<(f32, f32), f32> for AmDemodulator {
 }
 
 #[tactic(auto, unfolding(crate::specs::Step::size_of))]
+// Stays: one line here and in `agc`; a function for both would stand in a third crate.
 fn magnitude(i: f32, q: f32) -> f32
     ensures { result ≡ size_of (i, q) }
 {

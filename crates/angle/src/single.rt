@@ -6,6 +6,7 @@ pub const PI: f32 = 3.1415927;
 
 pub const TWO_PI: f32 = 6.2831855;
 
+// Stays: C has each of the three (`tl_sine_f32` and so on), and each is one line.
 // The sine of x; NaN where x is not finite.
 pub fn sine_f32(x: f32) -> f32
     ensures { result ≡ sine32 x }

@@ -12,6 +12,7 @@ use stage::Ran;
 
 impl DcRemover {
     // Mono samples, 16 at a time.
+    // Stays: one block for both would need the trait that one trial for both would (trial.rt).
     pub(crate) fn block_mono(self, data: &mut [f32]) -> Ran<DcRemover>
         ensures { gave result.state result.struck «data».new ≡ ran mono_stage mono self «data».old }
     {

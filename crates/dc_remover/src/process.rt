@@ -6,6 +6,7 @@ ghost use Rattle.dc_remover.specs.Process.{given, process_mono, process, process
 use crate::{DcRemover, DcRemoverDone};
 
 impl DcRemover {
+    // Stays: C has the three calls, and each hands its own kind of block on.
     // Mono samples, by the mean of I; that of Q stays. A sample is struck where its output or the new mean
     // would not be finite. SETTING, STATE (also for Q's mean) and LIMIT refuse; nothing is written then.
     pub fn process_mono(mut self, data: &mut [f32]) -> DcRemoverDone

@@ -116,7 +116,7 @@ impl End {
 }
 
 // A line on descriptor 2: what failed, and why.
-// Stays: (d) `vectors` has these two functions too; a library for two programs would be longer than they are.
+// Stays: `vectors` has these two functions too; a library for two programs would be longer than they are.
 fn fail(rt: &(impl Eprint + AllocGlobal), what: &str, error: io::Error) -> io::Result<()> {
     let text = format!(in rt.alloc(); "{error}")?;
     let why = without_number(text.as_str());

@@ -26,6 +26,7 @@ pub(crate) fn sums(z: &[f32], x: &[f32], taps: &[f32], factor: usize, q: usize) 
     requires filled { (128 * factor ≤ length z.now) × Upto z.now x.now factor (factor * 128) }
     ensures { (length result ≡ 32) × Summed taps.now x.now factor q result }
 {
+    // Stays: p and k are i % factor and q + i / factor of tap i; a division for each tap says it no plainer.
     let mut acc = [0.0f32; 32];
     let mut p = 0;
     let mut k = q;

@@ -19,6 +19,7 @@ pub use rules::taps_allowed;
 pub struct HilbertFilter;
 
 // What a call answers: the number of its refusal, 0 for none, and how many outputs were written.
+// Stays: C reads this record (`tl_hilbert_process_into`), so it has no type parameter, and `refusal` is a number.
 #[repr(C)]
 #[derive(Clone, Copy)]
 pub struct HilbertDone {

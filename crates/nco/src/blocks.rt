@@ -32,6 +32,7 @@ impl Nco {
             phase: self.phase,
         };
         let mut place = Place { k: 0, turn };
+        // Stays: how far a turn of this loop goes shows only when it is done, so nothing can count the turns.
         while place.k < iq.len() / 2 {
             place = self.fours(iq, place);
             place = self.singles(iq, place);

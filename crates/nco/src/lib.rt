@@ -28,6 +28,7 @@ pub struct Nco {
 
 // What every call answers: the number of the refusal, 0 for none; and the state for the next call, which is the one
 // handed in where this one is refused.
+// Stays: C reads this record (`tl_nco_mix`), so it has no type parameter, and `refusal` is a number.
 #[repr(C)]
 #[derive(Clone, Copy)]
 pub struct NcoDone {

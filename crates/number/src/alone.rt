@@ -8,6 +8,7 @@ ghost use Rattle.std.specs.Float.Ieee.Nearest.{closest};
 ghost use Rattle.number.specs.Narrow.{narrowed};
 
 // The f32 nearest to x, a tie to the even one; as Rust's `as f32`.
+// Stays: C has this method beside that of `narrow::narrow` (`tl_narrow_alone`), and each is the quicker one somewhere.
 #[tactic(auto, using(crate::proofs::narrow::Through::laws))]
 pub fn narrow(x: f64) -> f32
     ensures { result ≡ narrowed x }

@@ -10,7 +10,7 @@ use decimator::Decimator;
 impl Receiver {
     // The sound of a block, for receivers, lengths and blocks that are not refused. What goes from stage to stage has
     // room just as long as it is.
-    // Stays: (d) taps and histories are three slices, as the public calls have them; a record would serve this call alone.
+    // Stays: taps and histories are three slices, as the public calls have them; a record would serve this call alone.
     pub(crate) fn play(
         self,
         taps: &[f32],

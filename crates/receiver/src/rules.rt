@@ -32,6 +32,7 @@ impl Receiver {
     }
 }
 
+// Stays: `ssb` has such a rule too, with other lengths; one for both would be given all six numbers.
 // Whether there are 121 taps, 12 for each of the ten and one, and 120 places in either history.
 pub(crate) fn lengths_fit(taps: &[f32], i_history: &[f32], q_history: &[f32]) -> bool
     ensures { result ≡ lengths_fit (length taps.now) (length i_history.now) (length q_history.now) }

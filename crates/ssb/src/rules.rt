@@ -5,6 +5,7 @@ ghost use Rattle.ssb.specs.Answers.{answer};
 
 use crate::{SsbDemodulator, SsbDone};
 
+// Stays: `receiver` has such a rule too, with other lengths; one for both would be given all six numbers.
 // Whether there are 65 taps, a history of Q of taps less one, and a history of I of 32.
 pub(crate) fn lengths_fit(taps: &[f32], q_history: &[f32], i_history: &[f32]) -> bool
     ensures { result ≡ lengths_fit (length taps.now) (length q_history.now) (length i_history.now) }
