@@ -14,7 +14,7 @@ mod settling;
 
 // What a decimator is besides its taps and its history, which the caller lends. `phase` samples come before the
 // next output.
-// Stays: C lends taps and history anew at each call, as two slices (`tl_decimator_process_into`), so no record holds them.
+// Stays: C lends taps and history anew at each call (`tl_decimator_process_into`), so no record holds them.
 #[repr(C)]
 #[derive(Clone, Copy, Default)]
 pub struct Decimator {
@@ -24,7 +24,7 @@ pub struct Decimator {
 
 // What a call answers: the number of its refusal, 0 for none, the decimator from there on, and how many outputs
 // were written.
-// Stays: C reads this record (`tl_decimator_process_into`), so it has no type parameter for the state, and `refusal` is a number.
+// Stays: C reads this record (`tl_decimator_process_into`), so it has no type parameter, and `refusal` is a number.
 #[repr(C)]
 #[derive(Clone, Copy)]
 pub struct Decimated {

@@ -24,8 +24,8 @@ pub trait Real: Copy {
         ensures { result ≡ value self };
 }
 
-// Stays: `finite` compares, since a loop over std's `is_finite`, which subtracts, is a quarter slower (measured).
-// Stays: `magnitude` clears a bit, since std's `abs` compiles to a branch on the sign.
+// Stays: `finite` compares, as document 01 has it; std's `is_finite` subtracts, and a loop over it is a quarter slower.
+// Stays: `magnitude` clears a bit: document 01 has `abs` worked out from the bits ("What must change shape").
 #[tactic(auto, using(crate::proofs::kinds::Tests::laws))]
 impl Real for f32 {
     ghost value = { λ x. x };

@@ -17,7 +17,7 @@ mod rules;
 mod run;
 
 // What a demodulator is besides its taps and its histories, which the caller lends.
-// Stays: C lends taps and histories anew at each call, as slices (`tl_ssb_process_into`), so public calls take no record of them.
+// Stays: C lends taps and histories anew at each call (`tl_ssb_process_into`), so public calls take no record of them.
 #[repr(C)]
 #[derive(Clone, Copy, Default)]
 pub struct SsbDemodulator {
@@ -26,7 +26,7 @@ pub struct SsbDemodulator {
 
 // What a call answers: the number of its refusal, 0 for none, the demodulator from there on, and how many outputs
 // were written.
-// Stays: C reads this record (`tl_ssb_process_into`), so it has no type parameter for the state, and `refusal` is a number.
+// Stays: C reads this record (`tl_ssb_process_into`), so it has no type parameter, and `refusal` is a number.
 #[repr(C)]
 #[derive(Clone, Copy)]
 pub struct SsbDone {

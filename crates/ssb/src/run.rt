@@ -23,8 +23,8 @@ impl Lent<'_, '_> {
         }
     }
 
-    // Up to 256 pairs, as many as the output has places: I and Q taken apart, Q through the Hilbert filter, I delayed and
-    // mixed in.
+    // Up to 256 pairs, as many as the output has places: I and Q taken apart, Q through the Hilbert filter, I delayed
+    // and mixed in.
     fn chunk(&mut self, input: &[f32], output: &mut [f32])
         requires lengths { (length input.now ≡ length output.old + length output.old) × (length output.old ≤ 256) }
         ensures same { Same self.old self.new }

@@ -35,6 +35,7 @@ impl From<Refusal> for u32 {
 pub const LONGEST: usize = 262_144;
 
 // The first demand that is not met, in the order of the table.
+// Stays: the flags are the table's rows in its order, as `refusal_no` takes them; single calls could ask in another.
 // A flag says that its demand is met; a call that makes no such demand passes true.
 pub fn demands(
     setting: bool,

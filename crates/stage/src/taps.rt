@@ -2,7 +2,7 @@
 ghost use Rattle.std.specs.Prelude.{◌≡◌};
 ghost use Rattle.stage.specs.Taps.{odd_up_to};
 
-/// Whether n taps are odd, 3 at least and `most` at most.
+// Whether n taps are odd, 3 at least and `most` at most.
 pub fn odd_up_to(n: usize, most: usize) -> bool
     ensures { result ≡ odd_up_to most n }
 {

@@ -1,4 +1,5 @@
 // The number work under the stages, under C names.
+// Stays: C has no generic function, and the names are the header's, so each width has its own.
 ghost use Rattle.std.specs.Prelude.{◌≡◌};
 ghost use Rattle.std.specs.Float.{binary32};
 ghost use Rattle.std.specs.Float.Ieee.{to_unsigned};
