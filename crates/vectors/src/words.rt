@@ -5,7 +5,7 @@ use std::array;
 // How many bytes a word takes.
 pub const WORD: usize = 9;
 
-// No case has so many numbers or slices: a step over them is taken modulo this.
+// No case has so many numbers or slices. A step over them is taken modulo this, but what is read of them is not.
 const MANY: usize = 1024;
 
 // Every word of the file. Of a last one that is cut short, the digits that are missing are 0.
