@@ -1,6 +1,5 @@
 // What a call answers by value: up to six singles, and up to six patterns of 64 bits, which are whole numbers, flags
 // and the bits of doubles. The refusal is the first pattern. Places past the last number are 0.
-use crate::words::{self, Reader};
 use std::array;
 use std::num::{f32_to_bits_with_nan, f64_to_bits_with_nan};
 
@@ -19,18 +18,13 @@ impl Answer {
         }
     }
 
-    // The answer that a file tells, of so many numbers.
-    pub fn read(words: &mut Reader, singles: usize, patterns: usize) -> Answer {
-        let told = words.take(singles);
-        Answer {
-            singles: array::from_fn(|i| words::at(told, i)),
-            patterns: words.patterns(patterns),
-        }
-    }
-
-    // The number of the refusal, 0 for none. (Of number work, the first whole number or double.)
-    pub fn refusal(&self) -> u64 {
-        self.patterns[0]
+    // The answer that a file tells, of n patterns: those past them are 0. None where they are more than a call answers.
+    pub fn told(singles: [u32; 6], patterns: [u64; 6], n: usize) -> Option<Answer> {
+        let answer = Answer {
+            singles,
+            patterns: array::from_fn(|i| if i < n { patterns[i] } else { 0 }),
+        };
+        (n <= 6).then_some(answer)
     }
 }
 

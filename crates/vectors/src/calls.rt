@@ -75,6 +75,22 @@ impl TryFrom<u32> for Call {
 }
 
 impl Call {
+    // The call that a case runs. Where the call of its line is not one that is lent what the case lends, or no call has
+    // the line, another runs in its place, so that every case is held to an answer.
+    pub fn of(line: u32, is_lent: bool) -> Call {
+        match Call::try_from(line) {
+            Ok(call) if call.is_lent() == is_lent => call,
+            // Number work that is lent slices.
+            Ok(Call::Number(_)) => Call::Conversion(conversions::Call::ConvertInverted),
+            // A DC remover or a gain control that is lent none, but for the last of them.
+            Ok(Call::Level(call)) if !is_lent && !matches!(call, levels::Call::AudioAgcProcess) => {
+                Call::Level(levels::Call::AudioAgcNew)
+            }
+            _ if is_lent => Call::Oscillator(oscillator::Call::Mix),
+            _ => Call::Oscillator(oscillator::Call::Reset),
+        }
+    }
+
     // Whether the call is lent slices.
     pub fn is_lent(self) -> bool {
         match self {

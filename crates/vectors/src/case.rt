@@ -2,6 +2,7 @@
 use crate::answer::Answer;
 use crate::lent::{Five, Told};
 use crate::words::Reader;
+use std::num::f32_from_bits_with_nan;
 
 #[derive(Drop)]
 pub struct Case<'a> {
@@ -10,14 +11,16 @@ pub struct Case<'a> {
     pub words: usize,
     pub singles: [f32; 6],
     pub patterns: [u64; 6],
-    // None where the case counts what no call has, so that it cannot agree.
+    // None where more patterns are told than a call answers.
     pub answer: Option<Answer>,
+    // The number that the case is counted under.
+    pub refusal: u32,
     pub is_lent: bool,
     pub slices: Five<Told<'a>>,
 }
 
 impl<'a> Case<'a> {
-    // The case that begins with these words. A slice has three in its header.
+    // The case that begins with these words.
     pub fn read(words: &'a [u32]) -> Case<'a> {
         let mut words = Reader::new(words);
         let line = words.word();
@@ -25,21 +28,26 @@ impl<'a> Case<'a> {
         let [given, given_patterns] = [words.count(), words.count()];
         let [told, told_patterns] = [words.count(), words.count()];
         let slices = words.count();
-        let mut headers = Reader::new(words.take(slices.saturating_mul(3)));
-        let singles = words.singles(given);
+        // Any count but 0 stands for five slices: where there are fewer, what stands next is read as headers.
+        let is_lent = slices > 0;
+        let mut headers = if is_lent { words } else { Reader::new(&[]) };
+        words.skip(slices, 3);
+        let singles = words
+            .singles(given)
+            .map(|bits| f32_from_bits_with_nan(bits));
         let patterns = words.patterns(given_patterns);
-        let answer = Answer::read(&mut words, told, told_patterns);
-        let is_case = (slices == 0 || slices == 5)
-            && [given, given_patterns, told, told_patterns]
-                .iter()
-                .all(|n| *n <= 6);
+        let told_singles = words.singles(told);
+        // Where no pattern is told, the word that stands there is the refusal all the same.
+        let refusal = words.peek();
+        let answer = Answer::told(told_singles, words.patterns(told_patterns), told_patterns);
         Case {
             line,
             words: count,
             singles,
             patterns,
-            answer: is_case.then_some(answer),
-            is_lent: slices > 0,
+            answer,
+            refusal,
+            is_lent,
             slices: Five::read(&mut headers, &mut words),
         }
     }

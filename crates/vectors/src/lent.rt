@@ -73,7 +73,7 @@ impl<'a> Told<'a> {
 }
 
 impl<'a> Five<Told<'a>> {
-    // Slices that have no header are empty.
+    // Past the last word a header is of an empty slice.
     pub fn read(headers: &mut Reader<'a>, words: &mut Reader<'a>) -> Five<Told<'a>> {
         Five {
             first: Told::read(headers, words),
@@ -94,9 +94,9 @@ impl<'a> Five<Told<'a>> {
         })
     }
 
-    // Whether each slice but the first agrees.
-    pub fn others_agree(&self, lent: &Five<Vec<f32>>) -> bool {
-        self.second.agrees(lent.second.as_slice())
+    pub fn agree(&self, lent: &Five<Vec<f32>>) -> bool {
+        self.first.agrees(lent.first.as_slice())
+            && self.second.agrees(lent.second.as_slice())
             && self.third.agrees(lent.third.as_slice())
             && self.fourth.agrees(lent.fourth.as_slice())
             && self.fifth.agrees(lent.fifth.as_slice())

@@ -4,7 +4,7 @@ use crate::case::Case;
 use crate::replay;
 use crate::words::{WORD, words};
 use std::alloc::{AllocError, Global};
-use std::{fmt, io};
+use std::fmt;
 
 // The lines that are counted, and where among them those of the numbers begin.
 const LINES: usize = 64;
@@ -43,17 +43,17 @@ pub fn tell(rt: &(impl Print + AllocGlobal), names: &[u8], file: &[u8]) -> Resul
     let tallies = tallies(rt.alloc(), file)?;
     for (name, tally) in names.chunks_exact(NAME).zip(tallies.iter()) {
         if tally.cases > 0 {
-            let _ = line(rt, name, *tally);
+            line(rt, name, *tally);
         }
     }
     Ok(())
 }
 
-fn line(rt: &impl Print, name: &[u8], tally: Tally) -> io::Result<()> {
+fn line(rt: &impl Print, name: &[u8], tally: Tally) {
     if let Some((_, name)) = name.split_last() {
-        rt.write_all(name)?;
+        let _ = rt.write_all(name);
     }
-    rt.println(tally)
+    let _ = rt.println(tally);
 }
 
 // A case ends where the next one begins.
@@ -70,8 +70,7 @@ fn tallies(alloc: Global, file: &[u8]) -> Result<[Tally; LINES], AllocError> {
         tallies[case.line as usize % LINES].add(agrees);
         // The number work has no refusals.
         if !matches!(Call::try_from(case.line), Ok(Call::Number(_))) {
-            let number = case.answer.map_or(0, |answer| answer.refusal() % 16);
-            tallies[NUMBERS + number as usize].add(agrees);
+            tallies[NUMBERS + case.refusal as usize % 16].add(agrees);
         }
         at = at.saturating_add(case.words);
     }

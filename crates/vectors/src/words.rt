@@ -1,10 +1,12 @@
 // The words of a file: eight hexadecimal digits each, and one byte after them.
 use std::alloc::{AllocError, Global};
 use std::array;
-use std::num::f32_from_bits_with_nan;
 
 // How many bytes a word takes.
 pub const WORD: usize = 9;
+
+// No case has so many numbers or slices. A step over them is taken modulo this, but what is read of them is not.
+const MANY: usize = 1024;
 
 // Every word of the file. Of a last one that is cut short, the digits that are missing are 0.
 pub fn words(alloc: Global, file: &[u8]) -> Result<Vec<u32>, AllocError> {
@@ -42,6 +44,11 @@ impl<'a> Reader<'a> {
         Reader { rest }
     }
 
+    // The next word, which stays the next.
+    pub fn peek(&self) -> u32 {
+        at(self.rest, 0)
+    }
+
     pub fn word(&mut self) -> u32 {
         at(self.take(1), 0)
     }
@@ -57,15 +64,23 @@ impl<'a> Reader<'a> {
         taken
     }
 
-    // The first six of n singles. Where there are fewer, 0.0 stands in the places that are left.
-    pub fn singles(&mut self, n: usize) -> [f32; 6] {
-        let told = self.take(n);
-        array::from_fn(|i| f32_from_bits_with_nan(at(told, i)))
+    // Steps over n things of so many words each.
+    pub fn skip(&mut self, n: usize, each: usize) {
+        let _ = self.take((n % MANY).saturating_mul(each));
     }
 
-    // The same of patterns. Each is two words, the higher one second.
+    // The bits of the first six of n singles. Where there are fewer, 0 stands in the places that are left.
+    pub fn singles(&mut self, n: usize) -> [u32; 6] {
+        let told = self.rest;
+        self.skip(n, 1);
+        array::from_fn(|i| if i < n { at(told, i) } else { 0 })
+    }
+
+    // The first six of n patterns. Each is two words, the higher one second. Where there are fewer, what stands next is
+    // read as if it were theirs.
     pub fn patterns(&mut self, n: usize) -> [u64; 6] {
-        let told = self.take(n.saturating_mul(2));
+        let told = self.rest;
+        self.skip(n, 2);
         array::from_fn(|i| u64::from(at(told, 2 * i + 1)) << 32 | u64::from(at(told, 2 * i)))
     }
 }
