@@ -12,9 +12,6 @@ pub returns-then-m-ge5183643170835005440 : goal.returns-then-m-ge518364317083500
 returns-then-m-ge5183643170835005440 c =
     (lit≤ tt, λ b. at_high b c.args.field c.args.digits c.requires.0 c.requires.1 c.if-m-ge5183643170835005440.true c.requires.2)
 
-pub place-requires : goal.place-requires
-place-requires c = field_lt c.args.field c.args.digits c.requires.0 c.if-m-ge5183643170835005440.false
-
 -- both patterns are below that of an infinity
 place-le : (g e : ℕ) → g < 1151 → e ≡ g - 897 + 926 → e * 4503599627370496 ≤ 9218868437227405312
 place-le g e h k = omega arith
