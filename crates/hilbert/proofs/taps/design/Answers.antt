@@ -21,9 +21,3 @@ loop-i-preserved c =
     let e : length l.taps ≡ n = l.auto.taps in
     rw (c.tap.ensures, e) (filling_turns (rw (next_counted (tap_at n) l.i n h) at l.invariant))
 
-pub returns : goal.returns
-returns c =
-    let l = c.loop-i in
-    let n = length c.args.taps.now in
-    let e : n - l.i ≡ 0 = omega arith in
-    filling_ends (rw e at l.invariant)

@@ -7,12 +7,6 @@ use Rattle.stage.specs.Floats.{whole}
 use Rattle.hilbert.specs.Taps.{kernel}
 use Rattle.hilbert.proofs.taps.ideal.Goals as goal
 
-pub int_to_float-result : goal.int_to_float-result
-int_to_float-result c = whole_is_float binary32 _ (omega arith)
-
-pub int_to_float-result-2 : goal.int_to_float-result-2
-int_to_float-result-2 c = whole_is_float binary32 _ (omega arith)
-
 pub returns : goal.returns
 unfolding kernel whole
 returns c = refl

@@ -6,12 +6,6 @@ use Rattle.stage.specs.Floats.{whole}
 use Rattle.hilbert.specs.Taps.{ripple}
 use Rattle.hilbert.proofs.taps.wave.Goals as goal
 
-pub int_to_float-i : goal.int_to_float-i
-int_to_float-i c = whole_is_float binary32 _ (omega arith)
-
-pub int_to_float-m : goal.int_to_float-m
-int_to_float-m c = whole_is_float binary32 _ (omega arith)
-
 pub returns : goal.returns
 unfolding ripple whole
 returns c = simp c.cosine_f32.ensures

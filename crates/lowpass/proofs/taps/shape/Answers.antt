@@ -22,9 +22,3 @@ loop-i-preserved c =
     let e : length l.taps - 1 ≡ n - 1 = omega arith in
     rw (c.tap.ensures, e) (filling_turns (rw (next_counted (unscaled (n - 1) c.args.cutoff) l.i n h) at l.invariant))
 
-pub returns : goal.returns
-returns c =
-    let l = c.loop-i in
-    let n = length c.args.taps.now in
-    let e : n - l.i ≡ 0 = omega arith in
-    filling_ends (rw e at l.invariant)

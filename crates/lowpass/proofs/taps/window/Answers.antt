@@ -6,12 +6,6 @@ use lib.Ieee.{binary32}
 use Rattle.number.proofs.Casts.{whole_is_float}
 use Rattle.lowpass.proofs.taps.window.Goals as goal
 
-pub int_to_float-i : goal.int_to_float-i
-int_to_float-i c = whole_is_float binary32 _ (omega arith)
-
-pub int_to_float-m : goal.int_to_float-m
-int_to_float-m c = whole_is_float binary32 _ (omega arith)
-
 pub returns : goal.returns
 unfolding hamming whole
 returns c = simp c.cosine_f32.ensures
