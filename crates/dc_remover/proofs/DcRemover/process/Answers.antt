@@ -14,9 +14,6 @@ use Rattle.stage.proofs.InParts.{interleaved_row, part_begins, part_few, part_tu
 use Rattle.dc_remover.specs.Process.{pair_stage}
 use Rattle.dc_remover.proofs.DcRemover.process.Goals as goal
 
-pub loop-b-init : goal.loop-b-init
-loop-b-init c = simp unary_clauses (part_begins pair_stage interleaved (interleaved_row pair_stage) _ _)
-
 pub block_pairs-ran-requires : goal.block_pairs-ran-requires
 block_pairs-ran-requires c =
     let l = c.loop-b in
@@ -46,7 +43,3 @@ loop-b-preserved c =
     rw there
     (part_turns pair_stage interleaved (interleaved_row pair_stage) end (gave ran.result.state ran.result.struck ran.new.«data») (rw here at l.invariant) (omega arith) (omega arith) (eq-eqb _ _ even) ran.ensures (ran.auto.«data» ∙ size))
 
-pub returns : goal.returns
-returns c =
-    let s = c.args in
-    rw c.answer-2.ensures (met_gives pair_stage interleaved s.self s.«data».now (rw (c.within.ensures, c.even.ensures) at c.in_default.ensures) (part_ends pair_stage interleaved (interleaved_row pair_stage) c.loop-b.invariant (omega arith)))

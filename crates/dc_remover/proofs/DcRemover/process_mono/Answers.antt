@@ -13,9 +13,6 @@ use Rattle.stage.proofs.InParts.{mono_row, part_begins, part_few, part_turns, pa
 use Rattle.dc_remover.specs.Process.{mono_stage}
 use Rattle.dc_remover.proofs.DcRemover.process_mono.Goals as goal
 
-pub loop-b-init : goal.loop-b-init
-loop-b-init c = simp unary_clauses (part_begins mono_stage mono (mono_row mono_stage) _ _)
-
 pub overflow_add-struck : goal.overflow_add-struck
 overflow_add-struck c =
     let ran = c.block_mono-ran in
@@ -33,7 +30,3 @@ loop-b-preserved c =
     rw there
     (part_turns mono_stage mono (mono_row mono_stage) end (gave ran.result.state ran.result.struck ran.new.«data») (rw here at l.invariant) (omega arith) (omega arith) refl ran.ensures (ran.auto.«data» ∙ size))
 
-pub returns : goal.returns
-returns c =
-    let s = c.args in
-    rw c.answer-2.ensures (met_gives mono_stage mono s.self s.«data».now (rw c.within.ensures at c.in_default.ensures) (part_ends mono_stage mono (mono_row mono_stage) c.loop-b.invariant (omega arith)))

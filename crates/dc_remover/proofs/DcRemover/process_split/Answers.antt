@@ -11,9 +11,6 @@ use Rattle.stage.proofs.SplitParts.{split_parts_begin, part_left, part_right, sp
 use Rattle.dc_remover.specs.Process.{pair_stage}
 use Rattle.dc_remover.proofs.DcRemover.process_split.Goals as goal
 
-pub loop-b-init : goal.loop-b-init
-loop-b-init c = simp unary_clauses (split_parts_begin pair_stage _ _ _ _ c.min-n.ensures)
-
 pub overflow_add-struck : goal.overflow_add-struck
 overflow_add-struck c =
     let l = c.loop-b in

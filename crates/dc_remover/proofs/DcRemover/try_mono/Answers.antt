@@ -7,15 +7,8 @@ use Rattle.dc_remover.specs.Step.{mono_answer}
 use Rattle.dc_remover.proofs.Tried.{mono_kept}
 use Rattle.dc_remover.proofs.DcRemover.try_mono.Goals as goal
 
-pub loop-k-init : goal.loop-k-init
-loop-k-init c = trial_begins mono_answer plus_zero (λ s. Unit) (λ x. x) _ _ _ c.requires
-
 pub loop-k-preserved : goal.loop-k-preserved
 loop-k-preserved c =
     let l = c.loop-k in
     rw c.mono_kept-out.ensures (trial_turns mono_answer plus_zero (λ s. Unit) (λ x. x) nan l.invariant c.loop-k-test.true (λ f u. (mono_kept l.self _ f, tt)))
 
-pub returns : goal.returns
-returns c a =
-    let e = trial_ends mono_answer plus_zero (λ s. Unit) (λ x. x) c.loop-k.invariant c.loop-k-test.false tt a in
-    rw (← e.0, map-id, ← e.1, ← e.2)

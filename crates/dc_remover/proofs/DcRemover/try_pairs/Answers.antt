@@ -6,9 +6,6 @@ use Rattle.dc_remover.specs.Step.{pair_answer}
 use Rattle.dc_remover.proofs.Tried.{pair_kept}
 use Rattle.dc_remover.proofs.DcRemover.try_pairs.Goals as goal
 
-pub loop-k-init : goal.loop-k-init
-loop-k-init c = pair_trial_begins pair_answer (plus_zero, plus_zero) _ _ _ c.requires.0 c.requires.1
-
 pub loop-k-preserved : goal.loop-k-preserved
 loop-k-preserved c =
     let l = c.loop-k in
