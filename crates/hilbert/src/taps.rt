@@ -8,12 +8,11 @@ const FOUR_PI: f32 = 12.566371;
 
 // Writes the taps, as many as the slice has places.
 pub(crate) fn design(taps: &mut [f32])
-    requires { (0 < length taps.old) × (length taps.old ≤ 129) }
+    requires { length taps.old ≤ 129 }
     ensures { taps.new ≡ hilbert_taps (length taps.old) }
 {
     for i in 0..taps.len() {
-        let place = Place { n: taps.len(), i };
-        taps[i] = place.tap();
+        taps[i] = Place { n: taps.len(), i }.tap();
     }
 }
 

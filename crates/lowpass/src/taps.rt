@@ -4,6 +4,7 @@ ghost use Rattle.lowpass.specs.Lowpass.{sinc, hamming, unscaled, shapes, total, 
 
 // Writes the taps of a lowpass filter with this cutoff, as many as the slice has places. Answers the number
 // of the refusal, 0 for none: SETTING where the number of taps or the cutoff is not allowed.
+// Stays: C gets the number (`tl_design_lowpass`), and the clause speaks of it.
 pub fn design_lowpass(taps: &mut [f32], cutoff: f32) -> u32
     ensures { (result, taps.new) ≡ designed taps.old cutoff }
 {
@@ -16,7 +17,7 @@ pub fn design_lowpass(taps: &mut [f32], cutoff: f32) -> u32
 }
 
 fn fill(taps: &mut [f32], cutoff: f32)
-    requires { (0 < length taps.old) × (length taps.old ≤ 769) }
+    requires { length taps.old ≤ 769 }
     ensures { taps.new ≡ lowpass (length taps.old) cutoff }
 {
     shape(taps, cutoff);
@@ -25,12 +26,11 @@ fn fill(taps: &mut [f32], cutoff: f32)
 }
 
 fn shape(taps: &mut [f32], cutoff: f32)
-    requires { (0 < length taps.old) × (length taps.old ≤ 769) }
+    requires { length taps.old ≤ 769 }
     ensures { taps.new ≡ shapes (length taps.old) cutoff }
 {
     for i in 0..taps.len() {
-        let place = Place { n: taps.len(), i };
-        taps[i] = place.tap(cutoff);
+        taps[i] = Place { n: taps.len(), i }.tap(cutoff);
     }
 }
 
