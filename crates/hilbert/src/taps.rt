@@ -45,7 +45,8 @@ impl Place {
     fn window(self) -> f32
         ensures { result ≡ blackman_harris (self.n - 1) self.i }
     {
-        0.35875 - self.wave(0.48829, angle::single::TWO_PI) + self.wave(0.14128, FOUR_PI) - self.wave(0.01168, SIX_PI)
+        0.35875 - self.wave(0.48829, angle::single::TWO_PI) + self.wave(0.14128, FOUR_PI)
+            - self.wave(0.01168, SIX_PI)
     }
 
     // a x cos(turns x i / (n - 1)), where `turns` is a multiple of 2 x PI.

@@ -72,7 +72,8 @@ impl Place {
     fn window(self) -> f32
         ensures { result ≡ hamming (self.n - 1) self.i }
     {
-        0.54 - 0.46 * angle::single::cosine_f32(angle::single::TWO_PI * self.i as f32 / (self.n - 1) as f32)
+        0.54 - 0.46
+            * angle::single::cosine_f32(angle::single::TWO_PI * self.i as f32 / (self.n - 1) as f32)
     }
 }
 
