@@ -29,9 +29,3 @@ loop-k-preserved c =
       rw e (filling_turns (rw next at l.invariant.1)),
     )
 
-pub returns : goal.returns
-returns c =
-    let l = c.loop-k in
-    let x = c.args.input.now in
-    let past : length x ≤ 2 * l.k = omega arith in
-    (filling_ends (rw (drop_of_length-le x past) at l.invariant.0), filling_ends (rw (drop_of_length-le x past) at l.invariant.1))

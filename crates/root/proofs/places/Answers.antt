@@ -4,17 +4,8 @@ use lib.Count.{leading_le}
 use Rattle.root.proofs.Scale.{zeros_ge, scales}
 use Rattle.root.proofs.places.Goals as goal
 
-pub overflow_cast-s : goal.overflow_cast-s
-overflow_cast-s c = omega (arith, leading_le 64 c.args.m)
-
 pub overflow_sub-s : goal.overflow_sub-s
 overflow_sub-s c = omega (arith, zeros_ge c.args.m c.requires.0 c.requires.1)
-
-pub overflow_sub-result : goal.overflow_sub-result
-overflow_sub-result c = omega (arith, leading_le 64 c.args.m)
-
-pub overflow_add-result-2 : goal.overflow_add-result-2
-overflow_add-result-2 c = omega (arith, (scales c.args.m c.args.e c.requires.0 c.requires.1).few)
 
 pub returns : goal.returns
 returns c = scales c.args.m c.args.e c.requires.0 c.requires.1

@@ -39,11 +39,6 @@ returns-then-n-q c =
 less : (a b c : ℕ) → a + (b + 1) < c → a + b < c
 less a b c h = omega arith
 
-pub overflow_add-result-2 : goal.overflow_add-result-2
-overflow_add-result-2 c =
-    let a = c.args in
-    omega (arith, pattern_lt a.m a.e c.places-j.result c.whole_root-q.result c.places-j.ensures c.requires.2 (is-root c.before))
-
 pub returns : goal.returns
 returns c =
     let a = c.args in

@@ -1,19 +1,12 @@
 -- `lowpass::taps::scale` meets its contract. Assumes nothing.
-use Prim.Native.Nat.{◌+◌, ◌≤◌, ◌<◌}
+use Prim.Native.Nat.{◌+◌, ◌<◌}
 use native.Mathlib.Omega.{arith}
-use mathlib.Core.Path.{sym}
-use mathlib.Core.List.{map}
-use lib.ListN.{length, get_or, drop_of_length-le, length-map}
+use lib.ListN.{length, get_or}
 use lib.Seq.{drop-set-lt}
 use lib.Ieee.{nan}
-use Rattle.stage.proofs.Filling.{filling_begins, filling_turns, filling_ends, next_mapped}
+use Rattle.stage.proofs.Filling.{filling_turns, next_mapped}
 use Rattle.lowpass.specs.Lowpass.{divided_by}
 use Rattle.lowpass.proofs.taps.scale.Goals as goal
-
-pub loop-t-init : goal.loop-t-init
-loop-t-init c =
-    let taps = c.args.taps.now in
-    filling_begins (map (divided_by c.args.sum) taps) taps (sym (length-map taps (divided_by c.args.sum)))
 
 pub loop-t-preserved : goal.loop-t-preserved
 unfolding divided_by
@@ -23,9 +16,3 @@ loop-t-preserved c =
     let h : l.t-index < length l.taps = omega arith in
     let more : l.t-index < l.t-index + 1 = omega arith in
     rw (drop-set-lt (l.t-index + 1) l.taps l.t-index (divided_by sum (get_or l.taps l.t-index nan)) more) (filling_turns (rw (next_mapped (divided_by sum) l.taps l.t-index nan h) at l.invariant))
-
-pub returns : goal.returns
-returns c =
-    let l = c.loop-t in
-    let h : length l.taps ≤ l.t-index = omega arith in
-    filling_ends (rw (drop_of_length-le l.taps h) at l.invariant)
