@@ -15,6 +15,7 @@ mod taps;
 pub use rules::taps_allowed;
 
 // All that a Hilbert filter is, its taps and its history, is lent by the caller.
+// Stays: C lends taps and history anew at each call (`tl_hilbert_process_into`), so no record holds them.
 #[derive(Clone, Copy)]
 pub struct HilbertFilter;
 

@@ -1,9 +1,10 @@
 // The design: each place's sinc times its window, then all divided by their sum.
-ghost use Rattle.std.specs.Prelude.{◌≡◌, map, ◌<◌, ◌≤◌, length};
+ghost use Rattle.std.specs.Prelude.{◌≡◌, map, ◌-◌, ◌<◌, ◌≤◌, length};
 ghost use Rattle.lowpass.specs.Lowpass.{sinc, hamming, unscaled, shapes, total, divided_by, lowpass, designed};
 
 // Writes the taps of a lowpass filter with this cutoff, as many as the slice has places. Answers the number
 // of the refusal, 0 for none: SETTING where the number of taps or the cutoff is not allowed.
+// Stays: C gets the number (`tl_design_lowpass`), and the clause speaks of it.
 pub fn design_lowpass(taps: &mut [f32], cutoff: f32) -> u32
     ensures { (result, taps.new) ≡ designed taps.old cutoff }
 {
@@ -16,7 +17,7 @@ pub fn design_lowpass(taps: &mut [f32], cutoff: f32) -> u32
 }
 
 fn fill(taps: &mut [f32], cutoff: f32)
-    requires { (0 < length taps.old) × (length taps.old ≤ 769) }
+    requires { length taps.old ≤ 769 }
     ensures { taps.new ≡ lowpass (length taps.old) cutoff }
 {
     shape(taps, cutoff);
@@ -25,11 +26,11 @@ fn fill(taps: &mut [f32], cutoff: f32)
 }
 
 fn shape(taps: &mut [f32], cutoff: f32)
-    requires { (0 < length taps.old) × (length taps.old ≤ 769) }
+    requires { length taps.old ≤ 769 }
     ensures { taps.new ≡ shapes (length taps.old) cutoff }
 {
     for i in 0..taps.len() {
-        taps[i] = tap(taps.len() - 1, cutoff, i);
+        taps[i] = Place { n: taps.len(), i }.tap(cutoff);
     }
 }
 
@@ -51,12 +52,29 @@ fn scale(taps: &mut [f32], sum: f32)
     }
 }
 
-// The tap at i, before the scaling, for m + 1 taps.
-fn tap(m: usize, cutoff: f32, i: usize) -> f32
-    requires { (m < 769) × (i < 769) }
-    ensures { result ≡ unscaled m cutoff i }
-{
-    sinc_at(cutoff, i as f32 - m as f32 / 2.0) * window(m, i)
+// Place i of n taps.
+#[derive(Clone, Copy)]
+struct Place {
+    n: usize,
+    i: usize,
+    ghost few: { n ≤ 769 },
+    ghost within: { i < n },
+}
+
+impl Place {
+    // The tap, before the scaling.
+    fn tap(self, cutoff: f32) -> f32
+        ensures { result ≡ unscaled (self.n - 1) cutoff self.i }
+    {
+        sinc_at(cutoff, self.i as f32 - (self.n - 1) as f32 / 2.0) * self.window()
+    }
+
+    fn window(self) -> f32
+        ensures { result ≡ hamming (self.n - 1) self.i }
+    {
+        0.54 - 0.46
+            * angle::single::cosine_f32(angle::single::TWO_PI * self.i as f32 / (self.n - 1) as f32)
+    }
 }
 
 fn sinc_at(cutoff: f32, n: f32) -> f32
@@ -66,11 +84,4 @@ fn sinc_at(cutoff: f32, n: f32) -> f32
         return 2.0 * cutoff;
     }
     angle::single::sine_f32(angle::single::TWO_PI * cutoff * n) / (angle::single::PI * n)
-}
-
-fn window(m: usize, i: usize) -> f32
-    requires { (m < 769) × (i < 769) }
-    ensures { result ≡ hamming m i }
-{
-    0.54 - 0.46 * angle::single::cosine_f32(angle::single::TWO_PI * i as f32 / m as f32)
 }

@@ -3,7 +3,7 @@ use Prim.Native.Nat.{◌-◌, ◌<◌}
 use native.Mathlib.Omega.{arith}
 use mathlib.Core.Path.{◌≡◌, sym}
 use lib.ListN.{length}
-use Rattle.stage.proofs.Filling.{filling_begins, filling_turns, filling_ends, next_counted, length_counted}
+use Rattle.stage.proofs.Filling.{filling_begins, filling_turns, next_counted, length_counted}
 use Rattle.hilbert.specs.Taps.{tap_at, hilbert_taps}
 use Rattle.hilbert.proofs.taps.design.Goals as goal
 
@@ -20,4 +20,3 @@ loop-i-preserved c =
     let h : l.i < n = omega arith in
     let e : length l.taps ≡ n = l.auto.taps in
     rw (c.tap.ensures, e) (filling_turns (rw (next_counted (tap_at n) l.i n h) at l.invariant))
-

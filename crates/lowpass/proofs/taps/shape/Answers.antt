@@ -3,7 +3,7 @@ use Prim.Native.Nat.{◌-◌, ◌<◌}
 use native.Mathlib.Omega.{arith}
 use mathlib.Core.Path.{◌≡◌, sym}
 use lib.ListN.{length}
-use Rattle.stage.proofs.Filling.{filling_begins, filling_turns, filling_ends, next_counted, length_counted}
+use Rattle.stage.proofs.Filling.{filling_begins, filling_turns, next_counted, length_counted}
 use Rattle.lowpass.specs.Lowpass.{unscaled, shapes}
 use Rattle.lowpass.proofs.taps.shape.Goals as goal
 
@@ -21,4 +21,3 @@ loop-i-preserved c =
     let h : l.i < n = omega arith in
     let e : length l.taps - 1 ≡ n - 1 = omega arith in
     rw (c.tap.ensures, e) (filling_turns (rw (next_counted (unscaled (n - 1) c.args.cutoff) l.i n h) at l.invariant))
-
