@@ -80,9 +80,6 @@ pub fn follow(s: AudioAgc, envelope: f32) -> AudioAgc
 fn keep(out: f32, after: AudioAgc) -> Option<(f32, AudioAgc)>
     ensures { answer_of result ≡ keep_step out after }
 {
-    if stage::both_finite(out, after.gain) & after.envelope.finite() {
-        Some((out, after))
-    } else {
-        None
-    }
+    let kept = stage::both_finite(out, after.gain) & after.envelope.finite();
+    kept.then_some((out, after))
 }
