@@ -23,7 +23,7 @@ pub struct FmDemodulator {
     pub deemph_state: f32,
 }
 
-// Stays: C passes this record, so it keeps the refusal's number and takes no type parameter.
+// Stays: `tl_fm_process_into` gives it to C, so it keeps the refusal's number and takes no type parameter.
 #[repr(C)]
 #[derive(Clone, Copy)]
 pub struct FmDone {
