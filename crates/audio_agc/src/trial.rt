@@ -8,7 +8,7 @@ ghost use Rattle.std.specs.Float.Ieee.{lt};
 ghost use Rattle.audio_agc.specs.Step.{clamp_one};
 ghost use Rattle.audio_agc.specs.Moved.{Turned, Kept};
 
-use crate::{AudioAgc, level, step};
+use crate::{AudioAgc, level};
 use number::kinds::Real;
 
 impl AudioAgc {
@@ -46,7 +46,7 @@ impl AudioAgc {
     {
         let envelope = level::envelope_after(self.envelope, x.magnitude());
         if self.min_magnitude < envelope {
-            Some(step::follow(self, envelope))
+            Some(self.follow(envelope))
         } else {
             None
         }
