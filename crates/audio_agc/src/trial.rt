@@ -62,8 +62,8 @@ fn falls(data: &[f32], k: usize, envelope: f32) -> bool
 }
 
 // The outputs clamped to -1..1, four at a time, which the compiler works side by side.
-pub(crate) fn clamp_into(z: &[f32], data: &mut [f32])
-    requires { (length z.now ≡ 32) × (length «data».old ≡ 32) }
+pub(crate) fn clamp_into(z: &[f32; 32], data: &mut [f32])
+    requires { length «data».old ≡ 32 }
     ensures { «data».new ≡ map clamp_one z.now }
 {
     for g in 0..8 {
@@ -71,8 +71,8 @@ pub(crate) fn clamp_into(z: &[f32], data: &mut [f32])
     }
 }
 
-fn four_clamped(z: &[f32], at: usize) -> [f32; 4]
-    requires { at + 4 ≤ length z.now }
+fn four_clamped(z: &[f32; 32], at: usize) -> [f32; 4]
+    requires { at + 4 ≤ 32 }
     ensures { (l : ℕ) → l < 4 → get_or result l nan ≡ clamp_one (get_or z.now (at + l) nan) }
 {
     std::array::from_fn(|l| level::clamp(-1.0, 1.0, z[at + l]))
