@@ -14,8 +14,8 @@ use number::kinds::Real;
 impl AudioAgc {
     // The outputs into `z`, not yet clamped, and the state after the block; nothing where a sample of it would be
     // struck, or lies in dead air.
-    pub(crate) fn try_live(self, data: &[f32], z: &mut [f32]) -> Option<AudioAgc>
-        requires { (length z.old ≡ length «data».now) × (lt self.min_magnitude self.envelope ≡ true) }
+    pub(crate) fn try_live(self, data: &[f32], z: &mut [f32; 32]) -> Option<AudioAgc>
+        requires { (length «data».now ≡ 32) × (lt self.min_magnitude self.envelope ≡ true) }
         ensures { (after : AudioAgc) → result ≡ Some after → Kept self «data».now after (map clamp_one z.new) }
     {
         let mut at = self;
