@@ -7,8 +7,8 @@
 // and the rule on the hang time, `specs/Process.antt` what a call gives, accepted or refused, `specs/Cases.antt`
 // worked values. proofs/ shows that cutting a stream into calls and dropping the struck samples change
 // nothing else, that a burst of bad samples leaves no trace, and that no call makes a state that a later one
-// refuses. A block is tried as if no sample were struck (`trial.rt`; `specs/Moved.antt` is for that), and worked
-// in the plain form where a sample of it is struck or lies in dead air. No public function here has a `requires`.
+// refuses. A block is tried as if no sample were struck (`trial.rt`; `specs/Moved.antt` is for that), and left to
+// `stage::run_mono` where a sample of it is struck or lies in dead air. No public function here has a `requires`.
 #![tactic(auto)]
 
 mod level;
@@ -42,7 +42,7 @@ pub struct AudioAgc {
 
 // What every call answers: the number of the refusal, 0 for none; the state for the next call, which is
 // the one handed in where this one is refused; and how many samples were struck.
-// Stays: C passes this record, so it keeps the refusal's number and takes no type parameter.
+// Stays: `tl_audio_agc_process` gives it to C, so it keeps the refusal's number and takes no type parameter.
 #[repr(C)]
 #[derive(Clone, Copy)]
 pub struct AudioAgcDone {

@@ -1,10 +1,9 @@
 // The call that brings audio to the target level, in place. It works block by block, from the state that the block
-// before gave: a block is tried first, and worked in the plain form where something in it is struck or lies in
-// dead air. What is left at the end, shorter than a block, is worked in the plain form too.
+// before gave: a block is tried first, and left to `stage::run_mono` where something in it is struck or lies in dead
+// air. So is what is left at the end, shorter than a block.
 ghost use Rattle.std.specs.Prelude.{◌≡◌, length, Some, None};
-ghost use Rattle.stage.specs.Lent.{mono};
-ghost use Rattle.stage.specs.Call.{gave, ran};
-ghost use Rattle.audio_agc.specs.Process.{given, audio_stage, process};
+ghost use Rattle.audio_agc.specs.Moved.{Kept};
+ghost use Rattle.audio_agc.specs.Process.{given, process};
 
 use crate::trial::clamp_into;
 use crate::{AudioAgc, AudioAgcDone};
@@ -41,7 +40,7 @@ impl AudioAgc {
     // or lies in dead air. Dead air goes on as a rule, so a block that begins in it is not tried.
     fn try_block(self, data: &mut [f32]) -> Option<AudioAgc>
         requires { length «data».old ≡ 32 }
-        ensures kept { (after : AudioAgc) → result ≡ Some after → gave after 0 «data».new ≡ ran audio_stage mono self «data».old }
+        ensures kept { (after : AudioAgc) → result ≡ Some after → Kept self «data».old after «data».new }
         ensures left { result ≡ None → «data».new ≡ «data».old }
     {
         if !(self.min_magnitude < self.envelope) {

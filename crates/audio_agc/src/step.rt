@@ -16,62 +16,64 @@ impl Feedback<f32, f32> for AudioAgc {
     fn step(self, x: f32) -> Option<(f32, AudioAgc)> {
         let envelope = level::envelope_after(self.envelope, x.magnitude());
         if envelope < self.min_magnitude {
-            dead(self, envelope, x)
+            self.dead(envelope, x)
         } else {
-            live(self, envelope, x)
+            self.live(envelope, x)
         }
     }
 }
 
-// Dead air: the output is not clamped.
-#[tactic(auto, unfolding(crate::specs::Step::dead_step))]
-fn dead(s: AudioAgc, envelope: f32, x: f32) -> Option<(f32, AudioAgc)>
-    ensures { answer_of result ≡ dead_step s envelope x }
-{
-    let gain = level::dead_gain(s.gain);
-    let after = AudioAgc {
-        gain,
-        hang_counter: s.hang_counter.saturating_sub(1),
-        envelope,
-        ..s
-    };
-    keep(x * gain, after)
-}
-
-// A signal: the output is clamped to -1..1.
-fn live(s: AudioAgc, envelope: f32, x: f32) -> Option<(f32, AudioAgc)>
-    ensures { answer_of result ≡ live_step s envelope x }
-{
-    let after = follow(s, envelope);
-    keep(level::clamp(-1.0, 1.0, x * after.gain), after)
-}
-
-// The state after a signal of this envelope: the gain falls at once, hangs, then rises.
-pub fn follow(s: AudioAgc, envelope: f32) -> AudioAgc
-    ensures { Moves s envelope result }
-{
-    let error = s.target / (envelope + 1e-6);
-    if error < s.gain {
-        return AudioAgc {
-            gain: stage::blend(s.attack, s.gain, error),
-            hang_counter: s.hang_time_samples,
+impl AudioAgc {
+    // Dead air: the output is not clamped.
+    #[tactic(auto, unfolding(crate::specs::Step::dead_step))]
+    fn dead(self, envelope: f32, x: f32) -> Option<(f32, AudioAgc)>
+        ensures { answer_of result ≡ dead_step self envelope x }
+    {
+        let gain = level::dead_gain(self.gain);
+        let after = AudioAgc {
+            gain,
+            hang_counter: self.hang_counter.saturating_sub(1),
             envelope,
-            ..s
+            ..self
         };
+        keep(x * gain, after)
     }
-    if 0 < s.hang_counter {
-        return AudioAgc {
-            hang_counter: s.hang_counter - 1,
+
+    // A signal: the output is clamped to -1..1.
+    fn live(self, envelope: f32, x: f32) -> Option<(f32, AudioAgc)>
+        ensures { answer_of result ≡ live_step self envelope x }
+    {
+        let after = self.follow(envelope);
+        keep(level::clamp(-1.0, 1.0, x * after.gain), after)
+    }
+
+    // The state after a signal of this envelope: the gain falls at once, hangs, then rises.
+    pub(crate) fn follow(self, envelope: f32) -> AudioAgc
+        ensures { Moves self envelope result }
+    {
+        let error = self.target / (envelope + 1e-6);
+        if error < self.gain {
+            return AudioAgc {
+                gain: stage::blend(self.attack, self.gain, error),
+                hang_counter: self.hang_time_samples,
+                envelope,
+                ..self
+            };
+        }
+        if 0 < self.hang_counter {
+            return AudioAgc {
+                hang_counter: self.hang_counter - 1,
+                envelope,
+                ..self
+            };
+        }
+        let part = level::slow_decay(self.decay, self.min_magnitude, envelope);
+        AudioAgc {
+            gain: stage::blend(part, self.gain, error),
+            hang_counter: 0,
             envelope,
-            ..s
-        };
-    }
-    let part = level::slow_decay(s.decay, s.min_magnitude, envelope);
-    AudioAgc {
-        gain: stage::blend(part, s.gain, error),
-        hang_counter: 0,
-        envelope,
-        ..s
+            ..self
+        }
     }
 }
 
@@ -80,9 +82,6 @@ pub fn follow(s: AudioAgc, envelope: f32) -> AudioAgc
 fn keep(out: f32, after: AudioAgc) -> Option<(f32, AudioAgc)>
     ensures { answer_of result ≡ keep_step out after }
 {
-    if stage::both_finite(out, after.gain) & after.envelope.finite() {
-        Some((out, after))
-    } else {
-        None
-    }
+    let kept = stage::both_finite(out, after.gain) & after.envelope.finite();
+    kept.then_some((out, after))
 }

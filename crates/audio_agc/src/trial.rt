@@ -5,24 +5,21 @@
 ghost use Rattle.std.specs.Prelude.{ℕ, ◌≡◌, true, map, ◌+◌, ◌<◌, ◌≤◌, length, get_or, Some};
 ghost use Rattle.std.specs.Float.{nan};
 ghost use Rattle.std.specs.Float.Ieee.{lt};
-ghost use Rattle.stage.specs.Lent.{mono};
-ghost use Rattle.stage.specs.Call.{gave, ran};
 ghost use Rattle.audio_agc.specs.Step.{clamp_one};
-ghost use Rattle.audio_agc.specs.Moved.{Turned};
-ghost use Rattle.audio_agc.specs.Process.{audio_stage};
+ghost use Rattle.audio_agc.specs.Moved.{Turned, Kept};
 
-use crate::{AudioAgc, level, step};
+use crate::{AudioAgc, level};
 use number::kinds::Real;
 
 impl AudioAgc {
     // The outputs into `z`, not yet clamped, and the state after the block; nothing where a sample of it would be
     // struck, or lies in dead air.
-    pub(crate) fn try_live(self, data: &[f32], z: &mut [f32]) -> Option<AudioAgc>
-        requires { (length z.old ≡ length «data».now) × (lt self.min_magnitude self.envelope ≡ true) }
-        ensures { (after : AudioAgc) → result ≡ Some after → gave after 0 (map clamp_one z.new) ≡ ran audio_stage mono self «data».now }
+    pub(crate) fn try_live(self, data: &[f32], z: &mut [f32; 32]) -> Option<AudioAgc>
+        requires { (length «data».now ≡ 32) × (lt self.min_magnitude self.envelope ≡ true) }
+        ensures { (after : AudioAgc) → result ≡ Some after → Kept self «data».now after (map clamp_one z.new) }
     {
         let mut at = self;
-        // Stays: one `for` over all samples takes half as long again (measured), since each envelope then waits for a select.
+        // Stays: one `for` gives 0.55 of the original's speed, these loops 0.85: its envelopes each wait for a select.
         let mut k = 0;
         while k < data.len() {
             while falls(data, k, at.envelope) {
@@ -49,7 +46,7 @@ impl AudioAgc {
     {
         let envelope = level::envelope_after(self.envelope, x.magnitude());
         if self.min_magnitude < envelope {
-            Some(step::follow(self, envelope))
+            Some(self.follow(envelope))
         } else {
             None
         }
@@ -65,8 +62,8 @@ fn falls(data: &[f32], k: usize, envelope: f32) -> bool
 }
 
 // The outputs clamped to -1..1, four at a time, which the compiler works side by side.
-pub(crate) fn clamp_into(z: &[f32], data: &mut [f32])
-    requires { (length z.now ≡ 32) × (length «data».old ≡ 32) }
+pub(crate) fn clamp_into(z: &[f32; 32], data: &mut [f32])
+    requires { length «data».old ≡ 32 }
     ensures { «data».new ≡ map clamp_one z.now }
 {
     for g in 0..8 {
@@ -74,8 +71,8 @@ pub(crate) fn clamp_into(z: &[f32], data: &mut [f32])
     }
 }
 
-fn four_clamped(z: &[f32], at: usize) -> [f32; 4]
-    requires { at + 4 ≤ length z.now }
+fn four_clamped(z: &[f32; 32], at: usize) -> [f32; 4]
+    requires { at + 4 ≤ 32 }
     ensures { (l : ℕ) → l < 4 → get_or result l nan ≡ clamp_one (get_or z.now (at + l) nan) }
 {
     std::array::from_fn(|l| level::clamp(-1.0, 1.0, z[at + l]))

@@ -31,7 +31,9 @@ fn fours(input: &[f32], output: &mut [f32]) -> usize
 
 // The angles of four pairs, from pair k on.
 fn four(input: &[f32], output: &mut [f32], k: usize)
-    requires { (length input.now ≡ length output.old + length output.old) × (k + 4 ≤ length output.old) × Holds (angle_at input.now) output.old k }
+    requires lengths { length input.now ≡ length output.old + length output.old }
+    requires room { k + 4 ≤ length output.old }
+    requires before { Holds (angle_at input.now) output.old k }
     ensures { Holds (angle_at input.now) output.new (k + 4) }
 {
     let i = every_second(input, 2 * k);

@@ -15,6 +15,8 @@ ghost use Rattle.std.specs.Prelude.{◌≡◌};
 ghost use Rattle.fm.specs.State.{answered, fresh, deemphasised};
 ghost use Rattle.fm.specs.Process.{put, followed, process_into};
 
+use rules::Deemphasis;
+
 #[repr(C)]
 #[derive(Clone, Copy, Default)]
 pub struct FmDemodulator {
@@ -23,7 +25,7 @@ pub struct FmDemodulator {
     pub deemph_state: f32,
 }
 
-// Stays: C passes this record, so it keeps the refusal's number and takes no type parameter.
+// Stays: `tl_fm_process_into` gives it to C, so it keeps the refusal's number and takes no type parameter.
 #[repr(C)]
 #[derive(Clone, Copy)]
 pub struct FmDone {
@@ -53,10 +55,14 @@ impl FmDemodulator {
     pub fn with_deemphasis(mut self, sample_rate: f32, tau: f32) -> FmDone
         ensures { result ≡ deemphasised self sample_rate tau }
     {
-        if let Err(refusal) = rules::deemphasis(self, sample_rate, tau) {
+        let by = Deemphasis {
+            rate: sample_rate,
+            tau,
+        };
+        if let Err(refusal) = self.smoothing(by) {
             return self.answer(u32::from(refusal), 0, 0);
         }
-        self.deemph_alpha = rules::alpha(sample_rate, tau);
+        self.deemph_alpha = by.alpha();
         self.answer(stage::NONE, 0, 0)
     }
 
@@ -66,7 +72,7 @@ impl FmDemodulator {
     pub fn process_into(mut self, input: &[f32], output: &mut [f32]) -> FmDone
         ensures { put result output.new ≡ process_into self input.now output.old }
     {
-        if let Err(refusal) = rules::processing(self, input.len(), output.len()) {
+        if let Err(refusal) = self.processing(input.len(), output.len()) {
             return self.answer(u32::from(refusal), 0, 0);
         }
         let run = &mut output[..input.len() / 2];

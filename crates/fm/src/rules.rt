@@ -2,42 +2,65 @@
 ghost use Rattle.std.specs.Prelude.{◌≡◌};
 ghost use Rattle.stage.specs.Into.{number_into};
 ghost use Rattle.stage.specs.Numbers.{number_of};
-ghost use Rattle.fm.specs.State.{alpha_of, deemphasis_no};
+ghost use Rattle.fm.specs.State.{alpha_of, setting_met, state_met, deemphasis_no};
 ghost use Rattle.fm.specs.Process.{fm_stage};
 
 use crate::FmDemodulator;
 use stage::Refusal;
 
-// The de-emphasis' weight, dt / (dt + tau) with dt = 1 / rate.
+// What makes a de-emphasis: the rate of the samples, in Hz, and a time in seconds.
+#[derive(Clone, Copy)]
+pub struct Deemphasis {
+    pub rate: f32,
+    pub tau: f32,
+}
+
 #[tactic(auto, unfolding(crate::specs::State::alpha_of))]
-pub fn alpha(rate: f32, tau: f32) -> f32
-    ensures { result ≡ alpha_of rate tau }
-{
-    let dt = 1.0 / rate;
-    dt / (dt + tau)
+impl Deemphasis {
+    // Its weight, dt / (dt + tau) with dt = 1 / rate.
+    pub fn alpha(self) -> f32
+        ensures { result ≡ alpha_of self.rate self.tau }
+    {
+        let dt = 1.0 / self.rate;
+        dt / (dt + self.tau)
+    }
 }
 
-#[tactic(auto, unfolding(crate::specs::State::deemphasis_no))]
-pub fn deemphasis(s: FmDemodulator, rate: f32, tau: f32) -> Result<(), Refusal>
-    ensures { number_of result ≡ deemphasis_no s rate tau }
-{
-    let old = stage::in_unit(s.deemph_alpha);
-    let given = stage::positive(rate) & stage::not_negative(tau);
-    let new = stage::in_unit(alpha(rate, tau));
-    let state = stage::both_finite(s.last_phase, s.deemph_state);
-    stage::demands(old & given & new, state, true, true, true)
-}
+impl FmDemodulator {
+    // Whether alpha lies from 0 to 1.
+    fn setting(self) -> bool
+        ensures { result ≡ setting_met self }
+    {
+        stage::in_unit(self.deemph_alpha)
+    }
 
-pub fn processing(s: FmDemodulator, n: usize, room: usize) -> Result<(), Refusal>
-    ensures { number_of result ≡ number_into fm_stage s n room }
-{
-    let setting = stage::in_unit(s.deemph_alpha);
-    let state = stage::both_finite(s.last_phase, s.deemph_state);
-    stage::demands(
-        setting,
-        state,
-        stage::within(n),
-        stage::even(n),
-        n / 2 <= room,
-    )
+    // Whether what is stored is finite.
+    fn state(self) -> bool
+        ensures { result ≡ state_met self }
+    {
+        stage::both_finite(self.last_phase, self.deemph_state)
+    }
+
+    // Whether it may take this de-emphasis.
+    #[tactic(auto, unfolding(crate::specs::State::deemphasis_no))]
+    pub(crate) fn smoothing(self, by: Deemphasis) -> Result<(), Refusal>
+        ensures { number_of result ≡ deemphasis_no self by.rate by.tau }
+    {
+        let given = stage::positive(by.rate) & stage::not_negative(by.tau);
+        let new = stage::in_unit(by.alpha());
+        stage::demands(self.setting() & given & new, self.state(), true, true, true)
+    }
+
+    // Whether it may demodulate `n` samples into `room` places.
+    pub(crate) fn processing(self, n: usize, room: usize) -> Result<(), Refusal>
+        ensures { number_of result ≡ number_into fm_stage self n room }
+    {
+        stage::demands(
+            self.setting(),
+            self.state(),
+            stage::within(n),
+            stage::even(n),
+            n / 2 <= room,
+        )
+    }
 }

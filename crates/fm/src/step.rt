@@ -17,18 +17,13 @@ impl Feedback<f32, f32> for FmDemodulator {
         let diff = wrap(phase - self.last_phase);
         let state = stage::blend(self.deemph_alpha, self.deemph_state, diff);
         let out = state / angle::single::PI;
-        if stage::both_finite(phase, state) & out.finite() {
-            Some((
-                out,
-                FmDemodulator {
-                    last_phase: phase,
-                    deemph_state: state,
-                    ..self
-                },
-            ))
-        } else {
-            None
-        }
+        let kept = stage::both_finite(phase, state) & out.finite();
+        let after = FmDemodulator {
+            last_phase: phase,
+            deemph_state: state,
+            ..self
+        };
+        kept.then_some((out, after))
     }
 }
 

@@ -22,7 +22,8 @@ impl Receiver {
         requires ready { Ready self (length taps.now) (length i_history.old) (length q_history.old) (length input.now) }
         requires room { (length output.old ≡ 4 * heard_of self.phase (length input.now)) × (length output.old ≤ 1640) }
         ensures outputs { output.new ≡ sound taps.now (memory self i_history.old q_history.old) input.now }
-        ensures memory_after { memory result i_history.new q_history.new ≡ after taps.now (memory self i_history.old q_history.old) input.now }
+        ensures memory_after { memory result i_history.new q_history.new
+            ≡ after taps.now (memory self i_history.old q_history.old) input.now }
     {
         let pairs = input.len() / 2;
         let m = output.len() / 4;

@@ -17,7 +17,8 @@ impl Receiver {
         input: &[u8],
         output: &mut [u8],
     ) -> Received
-        ensures answer { (result, i_history.new, q_history.new, output.new) ≡ received self taps.now i_history.old q_history.old input.now output.old }
+        ensures answer { (result, i_history.new, q_history.new, output.new)
+            ≡ received self taps.now i_history.old q_history.old input.now output.old }
         ensures count { result.count ≤ length output.new }
     {
         let n = input.len();

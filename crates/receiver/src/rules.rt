@@ -5,6 +5,7 @@ ghost use Rattle.receiver.specs.Answers.{answer};
 
 use crate::{Received, Receiver};
 
+// Stays: fm's own rules are private; a public pair would be two calls more for this one caller.
 impl Receiver {
     // Whether the phase is below ten and the demodulator's alpha is from 0 to 1.
     pub(crate) fn setting(self) -> bool

@@ -4,7 +4,7 @@ use Rattle.audio_agc.proofs.Trying.{trying_begins, trying_turns}
 use Rattle.audio_agc.proofs.AudioAgc.try_live.Goals as goal
 
 pub loop-k-init : goal.loop-k-init
-loop-k-init c = trying_begins _ _ _ c.requires.0 c.requires.1
+loop-k-init c = trying_begins _ _ _ (omega (arith, c.requires.0)) c.requires.1
 
 pub loop-at-preserved : goal.loop-at-preserved
 loop-at-preserved c =

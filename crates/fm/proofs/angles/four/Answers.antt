@@ -28,4 +28,4 @@ returns c =
     let a = c.args in
     let four : a.k + 4 - a.k ≡ 4 = omega arith in
     let is = lanes-angles a.input.now c.arctangents_f32-a.result q.result i.result a.k c.arctangents_f32-a.ensures q.ensures i.ensures in
-    rw four (places_more nan (angle_at a.input.now) a.output.now c.copy_from_slice.new.self a.k 4 (omega arith) (rw (c.copy_from_slice.ensures.after, c.arctangents_f32-a.ensures) refl) c.requires.2 (rw c.copy_from_slice.ensures.after is))
+    rw four (places_more nan (angle_at a.input.now) a.output.now c.copy_from_slice.new.self a.k 4 (omega arith) (rw (c.copy_from_slice.ensures.after, c.arctangents_f32-a.ensures) refl) c.requires.before (rw c.copy_from_slice.ensures.after is))

@@ -1,7 +1,7 @@
--- `audio_agc::step::live` meets its contract: what a signal moves is the definition's. Assumes nothing.
+-- `audio_agc::AudioAgc::live` meets its contract: what a signal moves is the definition's. Assumes nothing.
 use mathlib.Core.Path.{sym, ◌∙◌}
 use Rattle.audio_agc.specs.Step.{loud_step}
-use Rattle.audio_agc.proofs.step.live.Goals as goal
+use Rattle.audio_agc.proofs.AudioAgc.live.Goals as goal
 
 pub returns : goal.returns
 unfolding loud_step
