@@ -6,6 +6,7 @@ ghost use Rattle.fir.specs.Into.{filtered_odd_into};
 ghost use Rattle.fir.specs.Written.{odd_at};
 ghost use Rattle.fir.specs.Planes.{OddSummed};
 
+use crate::history::history_fits;
 use crate::work::Work;
 
 // Writes an output for each sample of a block to the start of the output slice and answers how many they are.
@@ -15,7 +16,7 @@ pub fn filter_odd_into(taps: &[f32], history: &[f32], input: &[f32], output: &mu
     ensures { (result, output.new) ≡ filtered_odd_into taps.now history.now input.now output.old }
 {
     let count = input.len();
-    let fit = (history.len() + 1 == taps.len())
+    let fit = history_fits(taps, history)
         & (taps.len() <= 129)
         & stage::within(count)
         & (count <= output.len());
