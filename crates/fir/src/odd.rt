@@ -6,6 +6,7 @@ ghost use Rattle.fir.specs.Into.{filtered_odd_into};
 ghost use Rattle.fir.specs.Written.{odd_at};
 ghost use Rattle.fir.specs.Planes.{OddSummed};
 
+use crate::blocks::by_32;
 use crate::history::history_fits;
 use crate::work::Work;
 
@@ -65,12 +66,13 @@ fn block_odd(x: &[f32], taps: &[f32], output: &mut [f32])
     requires { length output.old + 32 + length taps.now ≤ length x.now }
     ensures { output.new ≡ counted (odd_at taps.now x.now) (length output.old) }
 {
-    for b in 0..output.len().div_ceil(32) {
-        let g = 32 * b;
-        let end = output.len().min(g + 32);
-        let acc = odd_sums(x, taps, g);
-        output[g..end].copy_from_slice(&acc[..end - g]);
-    }
+    by_32(
+        |g|
+            requires { g + 32 + length taps.now ≤ length x.now }
+            ensures { (length result ≡ 32) × OddSummed taps.entry.now x.entry.now g result }
+        { odd_sums(x, taps, g) },
+        output,
+    );
 }
 
 // 32 neighbouring outputs, the first of the window that begins at o.

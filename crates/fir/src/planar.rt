@@ -2,7 +2,9 @@
 ghost use Rattle.std.specs.Prelude.{◌≡◌, ◌+◌, ◌*◌, ◌<◌, ◌≤◌, length};
 ghost use Rattle.stage.specs.Counted.{counted, counted_from};
 ghost use Rattle.fir.specs.Written.{dots_of};
+ghost use Rattle.fir.specs.Planes.{Upto, Summed};
 
+use crate::blocks::by_32;
 use crate::work::Work;
 
 // Work whose taps are few enough for the planes.
@@ -63,11 +65,15 @@ impl Planar<'_> {
         ensures { output.new ≡ counted (dots_of self.now.work.taps.now x.now self.now.work.factor) (length output.old) }
     {
         crate::planes::fill(z, x, self.work.factor);
-        for b in 0..output.len().div_ceil(32) {
-            let g = 32 * b;
-            let end = output.len().min(g + 32);
-            let acc = crate::lanes::sums(z, x, self.work.taps, self.work.factor, g);
-            output[g..end].copy_from_slice(&acc[..end - g]);
-        }
+        by_32(
+            |g|
+                requires few { g ≤ 64 }
+                requires room { 128 * self.now.work.factor ≤ length z.now }
+                requires filled { Upto z.now x.now self.now.work.factor (self.now.work.factor * 128) }
+                ensures sums { length result ≡ 32 }
+                ensures of { Summed self.entry.now.work.taps.now x.entry.now self.entry.now.work.factor g result }
+            { crate::lanes::sums(z, x, self.work.taps, self.work.factor, g) },
+            output,
+        );
     }
 }
