@@ -1,9 +1,9 @@
 // The filter over the odd taps alone, with an output for each sample: neighbouring outputs' samples are
 // neighbours as they lie, so that the lanes need no planes.
-ghost use Rattle.std.specs.Prelude.{◌≡◌, ◌++◌, ◌+◌, ◌≤◌, length};
+ghost use Rattle.std.specs.Prelude.{◌≡◌, ◌+◌, ◌≤◌, length};
 ghost use Rattle.stage.specs.Counted.{counted, counted_from};
 ghost use Rattle.fir.specs.Into.{filtered_odd_into};
-ghost use Rattle.fir.specs.Written.{odd_at};
+ghost use Rattle.fir.specs.Written.{odd_at, odd_of};
 ghost use Rattle.fir.specs.Planes.{OddSummed};
 
 use crate::blocks::by_32;
@@ -22,6 +22,8 @@ pub fn filter_odd_into(taps: &[f32], history: &[f32], input: &[f32], output: &mu
         & stage::within(count)
         & (count <= output.len());
     if !fit {
+        // Stays: `filtered_odd_into` of specs/, which docs/PROMISES.md names, answers 0 there; the Hilbert filter, which
+        // calls this, has tested the lengths.
         return 0;
     }
     let work = Work {
@@ -40,7 +42,7 @@ impl Work<'_> {
     // The outputs, up to 256 at a time.
     fn run_odd(&self, output: &mut [f32])
         requires { (length self.now.taps.now ≤ 129) × (length output.old ≡ length self.now.input.now) }
-        ensures { output.new ≡ counted (odd_at self.now.taps.now (self.now.history.now ++ self.now.input.now)) (length output.old) }
+        ensures { output.new ≡ counted (odd_of self.now) (length output.old) }
     {
         let mut e = [0.0f32; 512];
         for b in 0..output.len().div_ceil(256) {
@@ -52,8 +54,9 @@ impl Work<'_> {
 
     // As many outputs as `output` has places, from output j on. e is the room for the samples.
     fn chunk_odd(&self, e: &mut [f32; 512], j: usize, output: &mut [f32])
-        requires { (length self.now.taps.now ≤ 129) × (length output.old ≤ 256) × (j + length output.old ≤ length self.now.input.now) }
-        ensures { output.new ≡ counted_from (odd_at self.now.taps.now (self.now.history.now ++ self.now.input.now)) j (length output.old) }
+        requires few { (length self.now.taps.now ≤ 129) × (length output.old ≤ 256) }
+        requires within { j + length output.old ≤ length self.now.input.now }
+        ensures { output.new ≡ counted_from (odd_of self.now) j (length output.old) }
     {
         let n = output.len() + self.history.len();
         self.gather(j, &mut e[..n]);

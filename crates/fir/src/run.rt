@@ -28,6 +28,8 @@ pub fn filter_into(
         & stage::within(input.len())
         & (count <= output.len());
     if !fit {
+        // Stays: `filtered_into` of specs/, which docs/PROMISES.md names, answers 0 there; the decimator, which calls
+        // this, has tested the lengths.
         return 0;
     }
     let work = Work {

@@ -37,9 +37,7 @@ impl Work<'_> {
                 requires word { j + l < 2 ^ 64 }
                 requires within { j + l < self.now.count }
                 ensures { result ≡ output_of self.entry.now (j + l) }
-            {
-                self.output(j + l)
-            },
+            { self.output(j + l) },
         )
     }
 }

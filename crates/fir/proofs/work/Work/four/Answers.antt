@@ -1,11 +1,10 @@
 -- `fir::work::Work::four` meets its contract: the four windows lie in the input, or each is read by itself. Assumes nothing.
 use Rattle.std.proofs.Common.{rules}
-use mathlib.Core.Path.{◌≡◌, refl, ◌∙◌}
+use mathlib.Core.Path.{◌∙◌}
 use Prim.Native.Nat.{◌+◌, ◌-◌}
 use native.Mathlib.Nat.{add-mul}
 use native.Mathlib.Omega.{arith}
 use lib.ListN.{length, length-drop}
-use lib.Ieee.{nan}
 use Rattle.std.proofs.lemmas.List.{take_rest}
 use Rattle.fir.specs.Written.{output_of}
 use Rattle.fir.proofs.Counting.{count_in}
