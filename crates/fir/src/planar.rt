@@ -2,9 +2,10 @@
 ghost use Rattle.std.specs.Prelude.{◌≡◌, ◌+◌, ◌*◌, ◌<◌, ◌≤◌, length};
 ghost use Rattle.stage.specs.Counted.{counted, counted_from};
 ghost use Rattle.fir.specs.Written.{dots_of};
-ghost use Rattle.fir.specs.Planes.{Upto, Summed};
+ghost use Rattle.fir.specs.Planes.{Summed};
 
 use crate::blocks::by_32;
+use crate::planes::Planes;
 use crate::work::Work;
 
 // Work whose taps are few enough for the planes.
@@ -68,15 +69,13 @@ impl Planar<'_> {
         requires room { 128 * self.now.work.factor ≤ length z.old }
         ensures { output.new ≡ counted (dots_of self.now.work.taps.now x.now self.now.work.factor) (length output.old) }
     {
-        crate::planes::fill(z, x, self.work.factor);
+        let taps = self.work.taps;
+        let planes = Planes::fill(z, x, self.work.factor);
         by_32(
             |g|
-                requires few { g ≤ 64 }
-                requires room { 128 * self.now.work.factor ≤ length z.now }
-                requires filled { Upto z.now x.now self.now.work.factor (self.now.work.factor * 128) }
-                ensures sums { length result ≡ 32 }
-                ensures of { Summed self.entry.now.work.taps.now x.entry.now self.entry.now.work.factor g result }
-            { crate::lanes::sums(z, x, self.work.taps, self.work.factor, g) },
+                requires { (g ≤ 64) × (length taps.now ≤ 16 * planes.factor + 1) }
+                ensures { (length result ≡ 32) × Summed taps.entry.now planes.entry.x.now planes.entry.factor g result }
+            { planes.sums(taps, g) },
             output,
         );
     }
