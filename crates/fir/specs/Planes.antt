@@ -20,3 +20,7 @@ Summed taps x factor q r = (l : ℕ) → l < 32 → (q + l) * factor + length ta
 -- 32 outputs over the odd taps, the first of the window at o
 abbrev pub OddSummed : List Float → List Float → ℕ → List Float → Type 0
 OddSummed taps x o r = (l : ℕ) → l < 32 → get_or r l nan ≡ odd_at taps x (o + l)
+
+-- what is given for g, of n outputs: the 32 values from g on, as far as there are outputs
+abbrev pub Gives : (ℕ → List Float → Type 0) → (ℕ → Float) → ℕ → Type 0
+Gives post v n = (g : ℕ) (r : List Float) → g < n → post g r → (length r ≡ 32) × ((l : ℕ) → l < 32 → g + l < n → get_or r l nan ≡ v (g + l))

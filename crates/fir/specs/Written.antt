@@ -19,3 +19,7 @@ output_of w j = dot_at w.taps.now (w.history.now ++ w.input.now) (w.phase + j * 
 -- the same sum over the odd taps
 unfoldable pub odd_at : List Float → List Float → ℕ → Float
 odd_at taps xs at = odd_from plus_zero (drop at xs) taps
+
+-- the outputs of a block over the odd taps
+abbrev pub odd_of : Work → ℕ → Float
+odd_of w j = odd_at w.taps.now (w.history.now ++ w.input.now) j

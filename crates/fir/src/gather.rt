@@ -6,7 +6,8 @@ use crate::work::Work;
 impl Work<'_> {
     // As many samples as e has places, from place `at` on.
     pub(crate) fn gather(&self, at: usize, e: &mut [f32])
-        requires { (length self.now.history.now ≤ at + length e.old) × (at + length e.old ≤ length self.now.history.now + length self.now.input.now) }
+        requires behind { length self.now.history.now ≤ at + length e.old }
+        requires within { at + length e.old ≤ length self.now.history.now + length self.now.input.now }
         ensures { e.new ≡ take (length e.old) (drop at (self.now.history.now ++ self.now.input.now)) }
     {
         let h = self.history.len();
@@ -19,7 +20,9 @@ impl Work<'_> {
 
     // The same where `at` is in the history.
     pub(crate) fn across(&self, at: usize, e: &mut [f32])
-        requires { (at < length self.now.history.now) × (length self.now.history.now ≤ at + length e.old) × (at + length e.old ≤ length self.now.history.now + length self.now.input.now) }
+        requires before { at < length self.now.history.now }
+        requires behind { length self.now.history.now ≤ at + length e.old }
+        requires within { at + length e.old ≤ length self.now.history.now + length self.now.input.now }
         ensures { e.new ≡ take (length e.old) (drop at (self.now.history.now ++ self.now.input.now)) }
     {
         let k = self.history.len() - at;

@@ -1,7 +1,9 @@
 // Neighbouring outputs side by side, a lane for each: no lane waits for another, so that one instruction
 // serves several.
 ghost use Rattle.std.specs.Prelude.{◌≡◌, ◌+◌, ◌*◌, ◌<◌, ◌≤◌, length};
-ghost use Rattle.fir.specs.Planes.{Upto, Turned, Summed};
+ghost use Rattle.fir.specs.Planes.{Turned, Summed};
+
+use crate::planes::Planes;
 
 // One tap of all lanes: each adds its own sample times the tap.
 pub(crate) fn turn<const N: usize>(
@@ -19,24 +21,25 @@ pub(crate) fn turn<const N: usize>(
     }
 }
 
-// 32 outputs, from output q of the samples x that z holds in planes. `p` and `k` are the plane and the row of
-// a tap's sample of the first of them.
-pub(crate) fn sums(z: &[f32], x: &[f32], taps: &[f32], factor: usize, q: usize) -> [f32; 32]
-    requires sizes { (0 < factor) × (factor ≤ 64) × (q ≤ 64) × (length taps.now ≤ 16 * factor + 1) }
-    requires filled { (128 * factor ≤ length z.now) × Upto z.now x.now factor (factor * 128) }
-    ensures { (length result ≡ 32) × Summed taps.now x.now factor q result }
-{
-    // Stays: p and k are i % factor and q + i / factor of tap i; a division for each tap says it no plainer.
-    let mut acc = [0.0f32; 32];
-    let mut p = 0;
-    let mut k = q;
-    for tap in taps {
-        turn(&mut acc, z, p * 128 + k, 1, *tap);
-        p += 1;
-        if p == factor {
-            p = 0;
-            k += 1;
+impl Planes<'_> {
+    // 32 outputs, from output q of the samples. `p` and `k` are the plane and the row of a tap's sample of the first
+    // of them.
+    pub(crate) fn sums(&self, taps: &[f32], q: usize) -> [f32; 32]
+        requires { (q ≤ 64) × (length taps.now ≤ 16 * self.now.factor + 1) }
+        ensures { (length result ≡ 32) × Summed taps.now self.now.x.now self.now.factor q result }
+    {
+        // Stays: p and k are i % factor and q + i / factor of tap i; a division for each tap says it no plainer.
+        let mut acc = [0.0f32; 32];
+        let mut p = 0;
+        let mut k = q;
+        for tap in taps {
+            turn(&mut acc, self.z, p * 128 + k, 1, *tap);
+            p += 1;
+            if p == self.factor {
+                p = 0;
+                k += 1;
+            }
         }
+        acc
     }
-    acc
 }

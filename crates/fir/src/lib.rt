@@ -12,6 +12,7 @@
 // they cite `specs/Written.antt` and `Planes.antt`.
 #![tactic(auto)]
 
+mod blocks;
 mod counts;
 mod dot;
 mod gather;

@@ -2,7 +2,10 @@
 ghost use Rattle.std.specs.Prelude.{◌≡◌, ◌+◌, ◌*◌, ◌<◌, ◌≤◌, length};
 ghost use Rattle.stage.specs.Counted.{counted, counted_from};
 ghost use Rattle.fir.specs.Written.{dots_of};
+ghost use Rattle.fir.specs.Planes.{Summed};
 
+use crate::blocks::by_32;
+use crate::planes::Planes;
 use crate::work::Work;
 
 // Work whose taps are few enough for the planes.
@@ -33,7 +36,8 @@ impl Planar<'_> {
     // As many outputs as `output` has places, from output j on. Where the first window begins in the history, the
     // samples are gathered first.
     fn chunk(&self, z: &mut [f32], e: &mut [f32], j: usize, output: &mut [f32])
-        requires few { (0 < length output.old) × (length output.old ≤ 64) × (j + length output.old ≤ self.now.work.count) }
+        requires few { (0 < length output.old) × (length output.old ≤ 64) }
+        requires within { j + length output.old ≤ self.now.work.count }
         requires room { (128 * self.now.work.factor ≤ length z.old) × (80 * self.now.work.factor ≤ length e.old) }
         ensures { output.new ≡ counted_from (output_of self.now.work) j (length output.old) }
     {
@@ -51,23 +55,28 @@ impl Planar<'_> {
     // How many samples the windows of m outputs span.
     fn span(&self, m: usize) -> usize
         requires { (0 < m) × (m ≤ 64) }
-        ensures { (result + self.now.work.factor ≡ m * self.now.work.factor + length self.now.work.taps.now) × (result ≤ 80 * self.now.work.factor) × (length self.now.work.taps.now ≤ result) }
+        ensures spans { result + self.now.work.factor ≡ m * self.now.work.factor + length self.now.work.taps.now }
+        ensures most { result ≤ 80 * self.now.work.factor }
+        ensures least { length self.now.work.taps.now ≤ result }
     {
         (m - 1) * self.work.factor + self.work.taps.len()
     }
 
     // The outputs of the samples x that they span: out of the planes z, which are filled anew.
     fn block(&self, z: &mut [f32], x: &[f32], output: &mut [f32])
-        requires few { (0 < length output.old) × (length output.old ≤ 64) × (length x.now + self.now.work.factor ≡ length output.old * self.now.work.factor + length self.now.work.taps.now) }
+        requires few { (0 < length output.old) × (length output.old ≤ 64) }
+        requires spans { length x.now + self.now.work.factor ≡ length output.old * self.now.work.factor + length self.now.work.taps.now }
         requires room { 128 * self.now.work.factor ≤ length z.old }
         ensures { output.new ≡ counted (dots_of self.now.work.taps.now x.now self.now.work.factor) (length output.old) }
     {
-        crate::planes::fill(z, x, self.work.factor);
-        for b in 0..output.len().div_ceil(32) {
-            let g = 32 * b;
-            let end = output.len().min(g + 32);
-            let acc = crate::lanes::sums(z, x, self.work.taps, self.work.factor, g);
-            output[g..end].copy_from_slice(&acc[..end - g]);
-        }
+        let taps = self.work.taps;
+        let planes = Planes::fill(z, x, self.work.factor);
+        by_32(
+            |g|
+                requires { (g ≤ 64) × (length taps.now ≤ 16 * planes.factor + 1) }
+                ensures { (length result ≡ 32) × Summed taps.entry.now planes.entry.x.now planes.entry.factor g result }
+            { planes.sums(taps, g) },
+            output,
+        );
     }
 }

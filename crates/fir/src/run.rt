@@ -4,6 +4,7 @@ ghost use Rattle.stage.specs.Counted.{counted};
 ghost use Rattle.fir.specs.Into.{filtered_into};
 ghost use Rattle.fir.specs.Written.{output_of};
 
+use crate::history::history_fits;
 use crate::planar::Planar;
 use crate::work::Work;
 
@@ -21,12 +22,14 @@ pub fn filter_into(
     ensures { (result, output.new) ≡ filtered_into factor phase taps.now history.now input.now output.old }
 {
     let count = crate::counts::count(factor, phase, input.len());
-    let fit = (history.len() + 1 == taps.len())
+    let fit = history_fits(taps, history)
         & (1 <= factor)
         & (factor <= 64)
         & stage::within(input.len())
         & (count <= output.len());
     if !fit {
+        // Stays: `filtered_into` of specs/, which docs/PROMISES.md names, answers 0 there; the decimator, which calls
+        // this, has tested the lengths.
         return 0;
     }
     let work = Work {

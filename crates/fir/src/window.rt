@@ -1,5 +1,5 @@
 // Windows read across history and input, which lie in two slices: one output, and four neighbouring ones.
-ghost use Rattle.std.specs.Prelude.{◌≡◌, ◌+◌, ◌<◌, ◌≤◌};
+ghost use Rattle.std.specs.Prelude.{◌≡◌, ◌+◌, ◌^◌, ◌<◌, ◌≤◌};
 ghost use Rattle.stage.specs.Counted.{counted_from};
 ghost use Rattle.fir.specs.Written.{output_of};
 
@@ -32,10 +32,12 @@ impl Work<'_> {
         if h <= at {
             return dot_four(&self.input[at - h..], self.factor, self.taps);
         }
-        let mut four = [0.0f32; 4];
-        for l in 0..4 {
-            four[l] = self.output(j + l);
-        }
-        four
+        std::array::from_fn(
+            |l|
+                requires word { j + l < 2 ^ 64 }
+                requires within { j + l < self.now.count }
+                ensures { result ≡ output_of self.entry.now (j + l) }
+            { self.output(j + l) },
+        )
     }
 }

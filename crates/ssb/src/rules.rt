@@ -3,6 +3,8 @@ ghost use Rattle.std.specs.Prelude.{◌≡◌, length};
 ghost use Rattle.ssb.specs.Rules.{lengths_fit};
 ghost use Rattle.ssb.specs.Answers.{answer};
 
+use fir::history_fits;
+
 use crate::{SsbDemodulator, SsbDone};
 
 // Stays: `receiver` has such a rule too, with other lengths; one for both would be given all six numbers.
@@ -10,7 +12,7 @@ use crate::{SsbDemodulator, SsbDone};
 pub(crate) fn lengths_fit(taps: &[f32], q_history: &[f32], i_history: &[f32]) -> bool
     ensures { result ≡ lengths_fit (length taps.now) (length q_history.now) (length i_history.now) }
 {
-    (taps.len() == 65) & (q_history.len() + 1 == taps.len()) & (i_history.len() == 32)
+    (taps.len() == 65) & history_fits(taps, q_history) & (i_history.len() == 32)
 }
 
 impl SsbDemodulator {

@@ -27,7 +27,7 @@ returns c =
     let t = a.taps.now in
     let x = a.history.now ++ a.input.now in
     let n = length a.input.now in
-    let fit : fits_odd (length t) (length a.history.now) n (length a.output.now) ≡ true = rw (← c.within.ensures) c.if-not-fit.false in
+    let fit : fits_odd (length t) (length a.history.now) n (length a.output.now) ≡ true = rw (← c.within.ensures, ← c.history_fits.ensures) c.if-not-fit.false in
     let room : length (take n a.output.now) ≡ n = length-take-le n a.output.now (leb-true n (length a.output.now) (both _ _ fit).1) in
     rw (fit, c.run_odd.ensures, count_of_each n, room)
     (ap {B = ℕ × List Float} (λ l. (n, l))

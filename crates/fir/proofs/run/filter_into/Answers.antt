@@ -19,7 +19,7 @@ returns c =
     let x = a.history.now ++ a.input.now in
     let n = c.count-count.result in
     let fit : fits a.factor a.phase (length t) (length a.history.now) (length a.input.now) (length a.output.now) ≡ true =
-    rw (← c.count-count.ensures, ← c.within.ensures) c.if-not-fit.false in
+    rw (← c.count-count.ensures, ← c.within.ensures, ← c.history_fits.ensures) c.if-not-fit.false in
     let holds = c.run.ensures in
     rw (fit, ← c.count-count.ensures)
     (ap {B = ℕ × List Float} (λ l. (n, l))

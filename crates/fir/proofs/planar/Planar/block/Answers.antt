@@ -1,23 +1,20 @@
--- `fir::planar::Planar::block` meets its contract. Assumes nothing.
-use mathlib.Core.Path.{◌∙◌}
-use Prim.Native.Nat.{◌+◌, ◌-◌, ◌*◌}
+-- `fir::planar::Planar::block` meets its contract: the windows of its outputs lie in x. Assumes nothing.
+use Prim.Native.Nat.{◌+◌}
 use native.Mathlib.Omega.{arith}
 use lib.ListN.{length}
 use Rattle.fir.specs.Written.{dots_of}
-use Rattle.fir.proofs.Grown.{first_lanes, grows_to}
 use Rattle.fir.proofs.Places.{window_fits}
 use Rattle.fir.proofs.planar.Planar.block.Goals as goal
 
-pub loop-b-preserved : goal.loop-b-preserved
-loop-b-preserved c =
-    let l = c.loop-b in
+pub returns : goal.returns
+returns c =
     let w = c.args.self.now.work in
-    let g = 32 * l.b in
-    let n = length c.args.x.now in
-    let v = dots_of w.taps.now c.args.x.now w.factor in
-    let end = c.min-end.result in
-    let acc = c.sums-acc in
-    let ys = c.copy_from_slice.ensures.after
-    ∙ first_lanes v acc.result g (end - g) (omega (arith, acc.ensures))
-    (λ i h. acc.ensures.1 i (omega arith) (window_fits w.factor (g + i) (length c.args.output.now) (length w.taps.now) n (omega arith) (omega (arith, c.requires)))) in
-    grows_to v l.output _ g l.auto.output l.invariant c.copy_from_slice.new.self 32 end _ (omega arith) (omega arith) (omega arith) ys
+    let x = c.args.x.now in
+    let same = c.fill-planes.ensures in
+    c.by_32.ensures (dots_of w.taps.now x w.factor)
+    (λ g r lt given.
+    let post = (rw (same.0, same.1) at given) in (
+      post.0,
+      λ i h below.
+          post.1 i h (window_fits w.factor (g + i) (length c.args.output.now) (length w.taps.now) (length x) below (omega (arith, c.requires))),
+    ))

@@ -18,16 +18,16 @@ spanned w j m at n any few is span =
 
 pub slice_bounds-block-end : goal.slice_bounds-block-end
 slice_bounds-block-end c =
-    let within = spanned c.args.self.now.work c.args.j (length c.args.output.now) c.place-at.result c.span-n.result (omega arith) (omega arith) c.place-at.ensures.0 c.span-n.ensures.0 in
+    let within = spanned c.args.self.now.work c.args.j (length c.args.output.now) c.place-at.result c.span-n.result (omega arith) (omega arith) c.place-at.ensures.0 c.span-n.ensures.spans in
     omega arith
 
 pub across-requires : goal.across-requires
 across-requires c =
     let w = c.args.self.now.work in
     let n = c.span-n.result in
-    let within = spanned w c.args.j (length c.args.output.now) c.place-at.result n (omega arith) (omega arith) c.place-at.ensures.0 c.span-n.ensures.0 in
+    let within = spanned w c.args.j (length c.args.output.now) c.place-at.result n (omega arith) (omega arith) c.place-at.ensures.0 c.span-n.ensures.spans in
     let long : length (take n c.args.e.now) ≡ n = length-take-le n c.args.e.now (omega arith) in
-    omega (arith, w.fit)
+    record { before = omega arith; behind = omega (arith, w.fit); within = omega arith }
 
 pub returns-then-h-at : goal.returns-then-h-at
 returns-then-h-at c =
@@ -36,7 +36,7 @@ returns-then-h-at c =
     let at = c.place-at.result in
     c.block.ensures
     ∙ rw (part_second w.history.now w.input.now at n (omega arith))
-    (dots_part w.taps.now (w.history.now ++ w.input.now) w.phase w.factor c.args.j at (length c.args.output.now) n c.place-at.ensures.0 c.span-n.ensures.0)
+    (dots_part w.taps.now (w.history.now ++ w.input.now) w.phase w.factor c.args.j at (length c.args.output.now) n c.place-at.ensures.0 c.span-n.ensures.spans)
 
 pub returns-else-h-at : goal.returns-else-h-at
 returns-else-h-at c =
@@ -49,4 +49,4 @@ returns-else-h-at c =
     let seen : e ≡ take n (drop at x) = c.across.ensures ∙ ap (λ (k : ℕ). take k (drop at x)) long in
     c.block-else-h-at.ensures
     ∙ rw (take_at e _ n (c.across.auto.e ∙ long), seen)
-    (dots_part w.taps.now x w.phase w.factor c.args.j at (length c.args.output.now) n c.place-at.ensures.0 c.span-n.ensures.0)
+    (dots_part w.taps.now x w.phase w.factor c.args.j at (length c.args.output.now) n c.place-at.ensures.0 c.span-n.ensures.spans)

@@ -1,13 +1,14 @@
 -- `fir::work::Work::four` meets its contract: the four windows lie in the input, or each is read by itself. Assumes nothing.
-use mathlib.Core.Path.{◌≡◌, refl, ◌∙◌}
+use Rattle.std.proofs.Common.{rules}
+use mathlib.Core.Path.{◌∙◌}
 use Prim.Native.Nat.{◌+◌, ◌-◌}
 use native.Mathlib.Nat.{add-mul}
 use native.Mathlib.Omega.{arith}
-use lib.ListN.{length, length-set, length-drop}
+use lib.ListN.{length, length-drop}
 use Rattle.std.proofs.lemmas.List.{take_rest}
 use Rattle.fir.specs.Written.{output_of}
 use Rattle.fir.proofs.Counting.{count_in}
-use Rattle.fir.proofs.Grown.{grows_by_one, grown}
+use Rattle.fir.proofs.Grown.{first_lanes, grown}
 use Rattle.fir.proofs.window.Across.{dots_in}
 use Rattle.fir.proofs.work.Work.four.Goals as goal
 
@@ -24,16 +25,7 @@ returns-then-h-at c =
     let w = c.args.self.now in
     c.dot_four.ensures ∙ dots_in w.history.now w.input.now w.taps.now w.phase w.factor c.args.j c.place-at.result 4 c.if-h-at.true c.place-at.ensures.0
 
-pub loop-l-init : goal.loop-l-init
-loop-l-init c = (refl, refl)
-
-pub loop-l-preserved : goal.loop-l-preserved
-loop-l-preserved c =
-    let l = c.loop-l in
-    (length-set _ _ _ ∙ l.invariant.0, rw c.output.ensures (grows_by_one (output_of c.args.self.now) l.four c.args.j l.l l.invariant.1 (omega arith)))
-
 pub returns : goal.returns
 returns c =
-    let l = c.loop-l in
-    let e : l.l ≡ 4 = omega arith in
-    grown (output_of c.args.self.now) l.four c.args.j 4 (rw e at l.invariant.1) (omega arith)
+    let v = output_of c.args.self.now in
+    grown v _ c.args.j 4 (first_lanes v _ c.args.j 4 (search rules) (search rules)) (search rules)

@@ -3,10 +3,9 @@ use mathlib.Core.Path.{◌≡◌}
 use Prim.Native.Nat.{min, ◌*◌}
 use lib.ListN.{length, take}
 use Rattle.stage.specs.Counted.{counted}
-use mathlib.Core.List.{◌++◌}
-use Rattle.fir.specs.Written.{odd_at}
+use Rattle.fir.specs.Written.{odd_of}
 use Rattle.fir.proofs.work.Work.run_odd.Given as goal
 
 abbrev pub invariant-loop-b : goal.invariant-loop-b
 invariant-loop-b l =
-    (length l.e ≡ 512) × (take (256 * l.b) l.output ≡ counted (odd_at l.self.taps.now (l.self.history.now ++ l.self.input.now)) (min (256 * l.b) (length l.initial.output)))
+    (length l.e ≡ 512) × (take (256 * l.b) l.output ≡ counted (odd_of l.self) (min (256 * l.b) (length l.initial.output)))
