@@ -9,6 +9,10 @@ abbrev pub Upto : List Float → List Float → ℕ → ℕ → Type 0
 Upto z x factor m =
     (p k : ℕ) → p < factor → k < 128 → p * 128 + k < m → k * factor + p < length x → get_or z (p * 128 + k) nan ≡ get_or x (k * factor + p) nan
 
+-- n samples are what the windows of m outputs span
+abbrev pub Spans : ℕ → ℕ → ℕ → ℕ → Type 0
+Spans n factor m taps = n + factor ≡ m * factor + taps
+
 -- one tap of n lanes: each adds its own sample times the tap
 abbrev pub Turned : ℕ → List Float → List Float → ℕ → ℕ → Float → List Float → Type 0
 Turned n acc x place step tap acc' = (l : ℕ) → l < n → get_or acc' l nan ≡ add binary32 (get_or acc l nan) (mul binary32 (get_or x (place + l * step) nan) tap)

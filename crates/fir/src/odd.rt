@@ -22,8 +22,8 @@ pub fn filter_odd_into(taps: &[f32], history: &[f32], input: &[f32], output: &mu
         & stage::within(count)
         & (count <= output.len());
     if !fit {
-        // Stays: `filtered_odd_into` of specs/, which docs/PROMISES.md names, answers 0 there; the Hilbert filter, which
-        // calls this, has tested the lengths.
+        // Stays: `filtered_odd_into` of specs/, which docs/PROMISES.md names, answers 0 there; the Hilbert filter,
+        // which calls this, has tested the lengths.
         return 0;
     }
     let work = Work {

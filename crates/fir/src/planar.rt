@@ -2,7 +2,7 @@
 ghost use Rattle.std.specs.Prelude.{◌≡◌, ◌+◌, ◌*◌, ◌<◌, ◌≤◌, length};
 ghost use Rattle.stage.specs.Counted.{counted, counted_from};
 ghost use Rattle.fir.specs.Written.{dots_of};
-ghost use Rattle.fir.specs.Planes.{Summed};
+ghost use Rattle.fir.specs.Planes.{Spans, Summed};
 
 use crate::blocks::by_32;
 use crate::planes::Planes;
@@ -55,7 +55,7 @@ impl Planar<'_> {
     // How many samples the windows of m outputs span.
     fn span(&self, m: usize) -> usize
         requires { (0 < m) × (m ≤ 64) }
-        ensures spans { result + self.now.work.factor ≡ m * self.now.work.factor + length self.now.work.taps.now }
+        ensures spans { Spans result self.now.work.factor m (length self.now.work.taps.now) }
         ensures most { result ≤ 80 * self.now.work.factor }
         ensures least { length self.now.work.taps.now ≤ result }
     {
@@ -65,7 +65,7 @@ impl Planar<'_> {
     // The outputs of the samples x that they span: out of the planes z, which are filled anew.
     fn block(&self, z: &mut [f32], x: &[f32], output: &mut [f32])
         requires few { (0 < length output.old) × (length output.old ≤ 64) }
-        requires spans { length x.now + self.now.work.factor ≡ length output.old * self.now.work.factor + length self.now.work.taps.now }
+        requires spans { Spans (length x.now) self.now.work.factor (length output.old) (length self.now.work.taps.now) }
         requires room { 128 * self.now.work.factor ≤ length z.old }
         ensures { output.new ≡ counted (dots_of self.now.work.taps.now x.now self.now.work.factor) (length output.old) }
     {
