@@ -37,7 +37,7 @@ pub struct Receiver {
 
 // What a call answers: the number of its refusal, 0 for none, the receiver from there on, and how many bytes of sound
 // were written.
-// Stays: the refusal is a number, as `made` and `received` of specs/ say it, which docs/PROMISES.md names.
+// Stays: the refusal is a number, since the theorem `receiver_receive` (promises, Demand1Receiver.antt) speaks of it.
 #[derive(Clone, Copy)]
 pub struct Received {
     pub refusal: u32,

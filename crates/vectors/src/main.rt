@@ -54,7 +54,7 @@ fn load(rt: &(impl Files + Eprint + AllocGlobal), path: &str, most: u64) -> Vec<
 }
 
 // A line on descriptor 2: what failed, and why.
-// Stays: (d) the demo has these two functions too; a library for two programs would be longer than they are.
+// Stays: the demo has these two functions too; a library for two programs would be longer than they are.
 fn fail(rt: &(impl Eprint + AllocGlobal), what: &str, error: io::Error) -> io::Result<()> {
     let text = format!(in rt.alloc(); "{error}")?;
     let why = without_number(text.as_str());
