@@ -36,12 +36,7 @@ impl DcRemover {
         let mut struck = 0;
         for b in 0..data.len().div_ceil(32) {
             let end = data.len().min(32 * b + 32);
-            let ran = DcRemover::block_pairs(
-                self.alpha,
-                self.avg_i,
-                self.avg_q,
-                &mut data[32 * b..end],
-            );
+            let ran = self.block_pairs(&mut data[32 * b..end]);
             self = ran.state;
             struck += ran.struck;
         }

@@ -3,9 +3,8 @@ ghost use Rattle.std.specs.Prelude.{◌≡◌, length};
 ghost use Rattle.ssb.specs.Rules.{lengths_fit};
 ghost use Rattle.ssb.specs.Answers.{answer};
 
-use fir::history_fits;
-
 use crate::{SsbDemodulator, SsbDone};
+use fir::history_fits;
 
 // Stays: `receiver` has such a rule too, with other lengths; one for both would be given all six numbers.
 // Whether there are 65 taps, a history of Q of taps less one, and a history of I of 32.

@@ -1,14 +1,7 @@
 -- `halves::put_together` meets its contract. Assumes nothing.
-use Prim.Native.Nat.{◌+◌, ◌*◌, ◌≤◌, ◌<◌}
-use native.Mathlib.Numerals.{add-one}
 use native.Mathlib.Omega.{arith}
-use mathlib.Core.Path.{◌≡◌}
-use mathlib.Core.List.{◌∷◌}
-use lib.ListN.{length, get_or, drop, drop_of_length-le}
-use lib.Seq.{drop-cons}
-use lib.Ieee.{nan}
 use Rattle.stage.specs.Layout.{flat, zip}
-use Rattle.stage.proofs.Filling.{filling_begins, filling_turns, filling_ends}
+use Rattle.stage.proofs.Filling.{filling_begins}
 use Rattle.stage.proofs.Layouts.{length_zip, length_flat}
 use Rattle.halves.proofs.put_together.Goals as goal
 
@@ -17,4 +10,3 @@ loop-k-init c =
     let a = c.args in
     let ps = zip a.i.now a.q.now in
     filling_begins (flat ps) a.output.now (omega (arith, length_flat ps, length_zip a.i.now a.q.now c.requires.1))
-

@@ -1,12 +1,12 @@
 -- `halves::take_apart` meets its contract. Assumes nothing.
-use Prim.Native.Nat.{◌+◌, ◌*◌, ◌≤◌, ◌<◌}
+use Prim.Native.Nat.{◌+◌, ◌*◌, ◌<◌}
 use native.Mathlib.Omega.{arith}
 use mathlib.Core.Path.{◌≡◌}
-use lib.ListN.{length, drop_of_length-le}
+use lib.ListN.{length}
 use lib.Ieee.{nan}
 use Rattle.stage.specs.Layout.{pairs, firsts, seconds}
 use Rattle.stage.proofs.Layouts.{pairs_drop, length_pairs, length_firsts, length_seconds}
-use Rattle.stage.proofs.Filling.{filling_begins, filling_turns, filling_ends}
+use Rattle.stage.proofs.Filling.{filling_begins, filling_turns}
 use Rattle.halves.proofs.take_apart.Goals as goal
 
 pub loop-k-init : goal.loop-k-init
@@ -28,4 +28,3 @@ loop-k-preserved c =
       rw e (filling_turns (rw next at l.invariant.0)),
       rw e (filling_turns (rw next at l.invariant.1)),
     )
-

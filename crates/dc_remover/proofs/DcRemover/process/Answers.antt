@@ -1,6 +1,5 @@
 -- `dc_remover::DcRemover::process` meets its contract: its loop goes on by a block whose run is the definition's. Assumes nothing.
 use Prim.Native.Nat.{◌+◌, ◌-◌, ◌*◌, ◌%◌, min}
-use native.Mathlib.Numerals.{unary_clauses}
 use native.Mathlib.Omega.{arith}
 use mathlib.Core.Path.{◌≡◌, ◌∙◌}
 use lib.ListN.{length, take, drop, length-drop}
@@ -9,8 +8,8 @@ use borrow.Author.Tests.{eqb-true, eq-eqb}
 use borrow.Author.Rules.{rules}
 use Rattle.stage.specs.Lent.{interleaved}
 use Rattle.stage.specs.Call.{gave}
-use Rattle.stage.proofs.Gives.{accepted_even, met_gives}
-use Rattle.stage.proofs.InParts.{interleaved_row, part_begins, part_few, part_turns, part_ends}
+use Rattle.stage.proofs.Gives.{accepted_even}
+use Rattle.stage.proofs.InParts.{interleaved_row, part_few, part_turns}
 use Rattle.dc_remover.specs.Process.{pair_stage}
 use Rattle.dc_remover.proofs.DcRemover.process.Goals as goal
 
@@ -42,4 +41,3 @@ loop-b-preserved c =
     let there : min (32 * (l.b + 1)) (length c.args.«data».now) ≡ end = omega arith in
     rw there
     (part_turns pair_stage interleaved (interleaved_row pair_stage) end (gave ran.result.state ran.result.struck ran.new.«data») (rw here at l.invariant) (omega arith) (omega arith) (eq-eqb _ _ even) ran.ensures (ran.auto.«data» ∙ size))
-

@@ -1,6 +1,5 @@
 -- `dc_remover::DcRemover::process_mono` meets its contract: its loop goes on by a block whose run is the definition's. Assumes nothing.
 use Prim.Native.Nat.{◌+◌, ◌-◌, ◌*◌, min}
-use native.Mathlib.Numerals.{unary_clauses}
 use native.Mathlib.Omega.{arith}
 use mathlib.Core.Path.{◌≡◌, refl, ◌∙◌}
 use lib.ListN.{length, drop, length-drop}
@@ -8,8 +7,7 @@ use lib.Seq.{length-take-le}
 use borrow.Author.Rules.{rules}
 use Rattle.stage.specs.Lent.{mono}
 use Rattle.stage.specs.Call.{gave}
-use Rattle.stage.proofs.Gives.{met_gives}
-use Rattle.stage.proofs.InParts.{mono_row, part_begins, part_few, part_turns, part_ends}
+use Rattle.stage.proofs.InParts.{mono_row, part_few, part_turns}
 use Rattle.dc_remover.specs.Process.{mono_stage}
 use Rattle.dc_remover.proofs.DcRemover.process_mono.Goals as goal
 
@@ -29,4 +27,3 @@ loop-b-preserved c =
     let there : min (16 * (l.b + 1)) (length c.args.«data».now) ≡ end = omega arith in
     rw there
     (part_turns mono_stage mono (mono_row mono_stage) end (gave ran.result.state ran.result.struck ran.new.«data») (rw here at l.invariant) (omega arith) (omega arith) refl ran.ensures (ran.auto.«data» ∙ size))
-

@@ -1,13 +1,12 @@
 -- `dc_remover::DcRemover::process_split` meets its contract: its loop goes on by a block whose run is the definition's. Assumes nothing.
 use Prim.Native.Nat.{◌+◌, ◌*◌, ◌≤◌, min}
-use native.Mathlib.Numerals.{unary_clauses}
 use native.Mathlib.Omega.{arith}
 use mathlib.Core.Path.{◌≡◌, ◌∙◌}
 use borrow.Author.Rules.{rules}
 use Rattle.stage.specs.Lent.{split}
 use Rattle.stage.specs.Call.{gave}
 use Rattle.stage.proofs.Gives.{met_gives}
-use Rattle.stage.proofs.SplitParts.{split_parts_begin, part_left, part_right, split_part_few, split_parts_turn, split_parts_end}
+use Rattle.stage.proofs.SplitParts.{part_left, part_right, split_part_few, split_parts_turn, split_parts_end}
 use Rattle.dc_remover.specs.Process.{pair_stage}
 use Rattle.dc_remover.proofs.DcRemover.process_split.Goals as goal
 

@@ -1,7 +1,7 @@
 -- `dc_remover::DcRemover::try_pairs` meets its contract: its loop is that of a trial over interleaved pairs. Assumes nothing.
 use lib.Ieee.{nan}
 use Rattle.stage.specs.Floats.{plus_zero}
-use Rattle.stage.proofs.Trial.{pair_trial_begins, pair_trial_turns, pair_trial_ends}
+use Rattle.stage.proofs.Trial.{pair_trial_turns, pair_trial_ends}
 use Rattle.dc_remover.specs.Step.{pair_answer}
 use Rattle.dc_remover.proofs.Tried.{pair_kept}
 use Rattle.dc_remover.proofs.DcRemover.try_pairs.Goals as goal
