@@ -20,6 +20,7 @@ fn word(bytes: &[u8]) -> u32 {
 }
 
 // Of a digit or a capital letter; 0 for any other byte.
+// Stays: `to_digit` would take small letters too, and the program has always read them as 0.
 fn digit(byte: u8) -> u32 {
     match byte {
         b'0'..=b'9' => u32::from(byte - b'0'),
