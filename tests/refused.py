@@ -40,18 +40,16 @@ def told(log):
     return 0
 
 
-# ---- that it can fail: edits of the crate halves that show nothing, and a word of what must be told of each
+# ---- that it can fail: edits of the crate converter that show nothing, and a word of what must be told of each
 
 PLANTS = [
-    ('same_meaning', 'NOT REFUSED', 'fn fitting(n: usize', 'fn fitting(n : usize'),
-    ('no_program', 'BAD EDIT', '(n % 2 == 0)', '(n % 2 == )'),
+    ('same_meaning', 'NOT REFUSED', 'fn demands(n: usize', 'fn demands(n : usize'),
+    ('no_program', 'BAD EDIT', 'stage::even(n) & (n == m)', 'stage::even(n) & (n == )'),
     ('not_there', '0 times', '(n % 3 == 0)', '(n % 2 == 1)'),
-    ('many_places', '2 times', 'k += 1;', 'k += 2;'),
-    ('a_call_less', 'a proof file names', '        take_apart(input, i, q);', '        let _ = input;'),
-    ('another_name', 'a proof file names', '    if fitting(output', '    let fits = fitting(output'),
+    ('many_places', '2 times', 'pub fn convert', 'pub fn converted'),
+    ('a_call_less', 'a proof file names', '    convert_by(src, dst, MIDDLE)', '    stage::NONE'),
+    ('another_name', 'a proof file names', '    convert_by(src, dst, -MIDDLE)', '    let done = convert_by(src, dst, -MIDDLE); done'),
 ]
-# The rest of the last one, which changes two places of its line.
-REST = {'another_name': 'old: output.len(), i.len(), q.len()) {\nnew: output.len(), i.len(), q.len()); if fits {\n'}
 
 
 def needed(crate, listed):
@@ -64,23 +62,23 @@ def plants():
         listed = dict(re.findall(r'^(\w+):(.*)$', file.read(), re.M))
     listed = {name: below.split() for name, below in listed.items()}
     with tempfile.TemporaryDirectory() as folder:
-        crates = needed('halves', listed)
+        crates = needed('converter', listed)
         for name in crates:
             for part in ('src', 'specs', 'proofs'):
                 if os.path.isdir('crates/%s/%s' % (name, part)):
                     shutil.copytree('crates/%s/%s' % (name, part), '%s/crates/%s/%s' % (folder, name, part))
         with open(folder + '/crates.txt', 'w', encoding='utf-8') as out:
             out.writelines('%s: %s\n' % (name, ' '.join(listed[name])) for name in listed if name in crates)
-        edits = folder + '/crates/halves/must-fail'
+        edits = folder + '/crates/converter/must-fail'
         os.mkdir(edits)
         for label, _, old, new in PLANTS:
             with open('%s/%s.edit' % (edits, label), 'w', encoding='utf-8') as out:
-                out.write('file: src/lib.rt\nold: %s\nnew: %s\n%s' % (old, new, REST.get(label, '')))
-        ran = subprocess.run(['rt', 'must-fail', 'halves'], cwd=folder, stdout=subprocess.PIPE, text=True)
+                out.write('file: src/lib.rt\nold: %s\nnew: %s\n' % (old, new))
+        ran = subprocess.run(['rt', 'must-fail', 'converter'], cwd=folder, stdout=subprocess.PIPE, text=True)
     found = shows_nothing(ran.stdout.split('\n'))
     missed = 0
     for label, word, _, _ in PLANTS:
-        lines = [line for line in found if 'halves/%s.edit: ' % label in line and word in line]
+        lines = [line for line in found if 'converter/%s.edit: ' % label in line and word in line]
         print('refused: planted %s: %s' % (label, 'told' if lines else 'MISSED'))
         missed += not lines
     if missed:
