@@ -36,10 +36,12 @@ def located(token):
 # ---- the public functions
 
 class Function:
-    def __init__(self, name, module, contract):
+    def __init__(self, name, module, contract, members=''):
         self.name = name          # as a caller writes it: Agc::process, stage::even, <f32 as Real>::finite, tl_convert
         self.module = module      # as a proof of another crate writes it: agc.Agc.process
-        self.contract = contract  # from the signature to the body; of an `impl`'s method, the trait's and the ghost members
+        self.contract = contract  # from the signature to the body; of an `impl`'s method, from the trait
+        self.members = members    # of an `impl`'s method: the ghost members, whose words the trait's clauses use
+        self.of_any_type = bool(re.match(r' *pub fn \w+<', contract))
 
 
 # a type as the checker writes it in the name of an `impl`: F32, Refusal, Tuple2F32F32
@@ -53,14 +55,14 @@ def mangled(type_):
     return head[:1].upper() + head[1:] + ''.join(map(mangled, arguments))
 
 
-# the clauses of each method of each trait of the repository
+# the clauses of each method of each trait of the repository; None where the trait gives it a body
 def clauses_of_traits():
     found = {}
     for crate in sorted(os.listdir('crates')):
         for file in sorted(os.listdir('crates/%s/src' % crate)):
             for trait, body in re.findall(r'^pub trait (\w+)[^\n]*\{\n(.*?)^\}', read('crates/%s/src/%s' % (crate, file)), re.M | re.S):
-                for name, clauses in re.findall(r'^    fn (\w+)(.*?);$', body, re.M | re.S):
-                    found[trait, name] = clauses
+                for name, clauses, ended in re.findall(r'^    (?:final )?fn (\w+)(.*?)(;$|\{$|^    \{)', body, re.M | re.S):
+                    found[trait, name] = clauses if ended == ';' else None
     return found
 
 
@@ -100,8 +102,9 @@ def public_functions(crate, of_traits):
                 if trait.partition('<')[0] not in inner:
                     place = crate if here == 'lib' else crate + '.' + here
                     module = '%s.%s%s.%s' % (place, mangled(impl), mangled(trait), name)
-                    clauses = of_traits.get((trait.partition('<')[0], name), '')
-                    yield Function('<%s as %s>::%s' % (impl, trait, name), module, clauses + '\nensures, in the words of\n' + contract)
+                    # a trait of the library has clauses of its own, in the words of the ghost members
+                    clauses = of_traits.get((trait.partition('<')[0], name), 'ensures' if contract else '') or ''
+                    yield Function('<%s as %s>::%s' % (impl, trait, name), module, clauses, contract)
             elif impl in types:
                 yield Function(impl + '::' + name, '%s.%s.%s' % (crate, impl, name), contract)
             elif impl is None and name.startswith('tl_'):
@@ -119,7 +122,25 @@ def libraries():
             yield name
 
 
-# by function, the theorem that no second answer meets its contract
+# what a theorem of no second answer says: of a contract as it stands, or, of a function over any type, of that contract
+# with all that the type brings. A premise, or an argument of its own choice, would make it say less
+PLAIN = r'^pub ([\w-]+) : NoSecond (\S+)\.ended (\S+)\.Reads\.Learnt$'
+OF_ANY_TYPE = r'^pub ([\w-]+) : \(([\w ]+) : _\) → NoSecond \((\S+)\.ended ([\w ]+)\) \((\S+)\.Reads\.Learnt ([\w ]+)\)$'
+
+
+# each theorem of no second answer: its name, the two names of the contract, and whether it is of any type
+def said(text):
+    for theorem, ended, learnt in re.findall(PLAIN, text, re.M):
+        yield theorem, ended, learnt, False
+    for theorem, brought, ended, ended_of, learnt, learnt_of in re.findall(OF_ANY_TYPE, text, re.M):
+        brought, ended_of = brought.split(), ended_of.split()
+        rest = iter(brought)
+        in_order = all(name in rest for name in ended_of)
+        if len(set(brought)) == len(brought) and learnt_of.split() == brought and in_order:
+            yield theorem, ended, learnt, True
+
+
+# by function, the theorem that no second answer meets its contract, and whether it is of any type
 def only_theorems():
     found = {}
     for file in sorted(f for f in os.listdir(THEOREMS) if f.startswith('Only')):
@@ -127,13 +148,11 @@ def only_theorems():
         use = r'^use Rattle\.(\w+)\.%s((?:\.\w+)?) as ([\w-]+)$'
         proofs = {a: crate + below for crate, below, a in re.findall(use % 'proofs', text, re.M)}
         says = {a: crate + below for crate, below, a in re.findall(use % r'specs\.contracts', text, re.M)}
-        # of a function over any type, the theorem begins with what the type brings
-        said = r'^pub ([\w-]+) : (?:\([^)]*\) → )?NoSecond \(?(\S+)\.ended(?: [^)]*\))? \(?(\S+)\.Reads\.Learnt(?: [^)]*\))?$'
-        for theorem, ended, learnt in re.findall(said, text, re.M):
+        for theorem, ended, learnt, of_any in said(text):
             head, _, rest = ended.partition('.')
             of, _, same = learnt.partition('.')
             if rest == same and head in says and says[head] == proofs.get(of):
-                found[proofs[of] + '.' + rest] = theorem
+                found[proofs[of] + '.' + rest, of_any] = theorem
     return found
 
 
@@ -211,16 +230,16 @@ def call_faults(header, cells, functions, theorems, listed):
     if given[0] not in functions:
         return
     f = functions[given[0]]
-    if f.contract.rpartition('in the words of\n')[2] not in read(located(tokens(column['Contract'])[0]) or PAGE):
+    if (f.members or f.contract) not in read(located(tokens(column['Contract'])[0]) or PAGE):
         yield '%s does not stand in the file given' % f.name
     for name, _ in names_of(column['Definition'], []):
-        if not names(f.contract.partition('ensures')[2], name):
+        if not names(f.contract.partition('ensures')[2] + f.members, name):
             yield 'the contract of %s does not name %s' % (f.name, name)
         for refuses in tokens(column.get('Demand 1', '')):
             if not names(statement(refuses, [t for t in tokens(header[-1]) if is_path(t)]), name):
                 yield '%s does not speak of %s' % (refuses, name)
-    if tokens(column['No second answer']) != [theorems.get(f.module)]:
-        yield 'the theorem of %s is %s' % (f.name, theorems.get(f.module))
+    if tokens(column['No second answer']) != [theorems.get((f.module, f.of_any_type))]:
+        yield 'the theorem of %s is %s' % (f.name, theorems.get((f.module, f.of_any_type)))
 
 
 def faults(functions):
@@ -237,14 +256,15 @@ def faults(functions):
             yield '%s: the public function %s is in no table' % (PAGE, name)
         if 'ensures' not in f.contract or 'requires' in f.contract:
             yield '%s has no ensures, or a requires' % name
-        if f.module not in theorems:
+        if (f.module, f.of_any_type) not in theorems:
             yield '%s: no theorem says that no second answer meets the contract of %s' % (THEOREMS, name)
 
 
 def checked():
     of_traits = clauses_of_traits()
     functions = {f.name: f for crate in libraries() for f in public_functions(crate, of_traits)}
-    return functions, list(faults(functions))
+    bodies = ['%s::%s has a body in its trait, and no row speaks of that' % key for key, clauses in of_traits.items() if clauses is None]
+    return functions, list(faults(functions)) + bodies
 
 
 # ---- that it can fail: what is planted where, and a word of the fault that must be told
@@ -262,6 +282,13 @@ PLANTS = [
     ('crates/agc/src/process.rt', 'pub fn process', 'pub fn processed', 'Agc::processed is in no table'),
     (THEOREMS + '/OnlyStages.antt', r'agc-says\.process\.ended agc\.process\.Reads', 'agc-says.process.ended agc.new.Reads', 'the contract of Agc::process'),
     (THEOREMS + '/OnlyC.antt', r'pub tl_agc_new :', 'tl_agc_new :', 'the contract of tl_agc_new'),
+    (THEOREMS + '/OnlyC.antt', r'pub tl_agc_new : ', 'pub tl_agc_new : (h : true ≡ false) → ', 'the contract of tl_agc_new'),
+    (THEOREMS + '/OnlyStages.antt', r'pub agc_new : NoSecond (\S+) (\S+)\n', r'pub agc_new : (x : _) → NoSecond (\1 x) (\2 x)\n', 'the contract of Agc::new'),
+    (THEOREMS + '/OnlyRuns.antt', r'pub run_mono : \(g ', 'pub run_mono : (no : ⊥) (g ', 'the contract of stage::run_mono'),
+    (THEOREMS + '/OnlyRuns.antt', r'positive\.ended g real d clone e\)', 'positive.ended g real d clone one)', 'the contract of stage::positive'),
+    ('crates/stage/src/runs.rt', r'\n *ensures { answer_of result ≡ answer self x };', ';', 'Feedback<f32, f32>>::step has no ensures'),
+    ('crates/number/src/kinds.rt', r'ensures { result ≡ value self };', ';', '<f32 as Real>::wide has no ensures'),
+    ('crates/stage/src/runs.rt', r'(fn step\(self, x: X\) -> Option<\(Y, Self\)>\n[^\n]*);', r'\1\n    { None }', 'Feedback::step has a body'),
 ]
 
 

@@ -6,7 +6,7 @@ use lib.Ieee.Scale.{finite}
 use Rattle.stage.specs.Floats.{both_finite}
 use Rattle.stage.specs.Refusal.{NONE, SETTING}
 use Rattle.stage.specs.Stage.{Sound}
-use Rattle.stage.proofs.Stays.{Keeps, kept_by_test, made_by_test}
+use Rattle.stage.proofs.Stays.{Keeps, kept_where, made_by_test}
 use Rattle.agc.specs.declared.AgcDone.{AgcDone}
 use Rattle.agc.specs.State.{setting_met, answered, fresh, zeros, made}
 use Rattle.agc.specs.Gain.{magnitude_of, gain_after}
@@ -18,7 +18,7 @@ unfolding agc_answer
 agc_keeps s p o t h e =
     let gain = gain_after s (magnitude_of p.0 p.1) in
     let out : Float × Float = (mul binary32 p.0 gain, mul binary32 p.1 gain) in
-    kept_by_test (Sound agc_stage) (both_finite out.0 out.1 && finite gain) out _
+    kept_where (Sound agc_stage) (both_finite out.0 out.1 && finite gain) out _
     (λ f. record { setting = h.setting; state = ((and-eq-true_iff (both_finite out.0 out.1) (finite gain)).0 f).1 }) o t e
 
 -- a making call that is not refused gives a sound state

@@ -5,7 +5,7 @@ use lib.Ieee.{of_bits, binary32, sub, le}
 use lib.Ieee.Scale.{finite}
 use Rattle.stage.specs.Floats.{both_finite}
 use Rattle.stage.specs.Stage.{Sound}
-use Rattle.stage.proofs.Stays.{Keeps, kept_by_test}
+use Rattle.stage.proofs.Stays.{Keeps, kept_where}
 use Rattle.am.specs.State.{fresh}
 use Rattle.am.specs.Step.{size_of, mean_after, envelope, passed, am_step}
 use Rattle.am.specs.Process.{am_stage}
@@ -17,7 +17,7 @@ am_keeps s p o t h e =
     let mean = mean_after s size in
     let state = passed s size in
     let out = sub binary32 (envelope s size) state in
-    kept_by_test (Sound am_stage) (both_finite mean state && finite out) out _
+    kept_where (Sound am_stage) (both_finite mean state && finite out) out _
     (λ f. record { setting = h.setting; state = ((and-eq-true_iff (both_finite mean state) (finite out)).0 f).0 }) o t e
 
 pub fresh_sound : Sound am_stage fresh.state

@@ -13,7 +13,7 @@ use Rattle.stage.specs.Settings.{is_positive, not_negative}
 use Rattle.stage.specs.Refusal.{NONE, SETTING}
 use Rattle.stage.specs.Run.{kept}
 use Rattle.stage.specs.Stage.{Sound}
-use Rattle.stage.proofs.Stays.{Keeps, kept_by_test, made_by_test}
+use Rattle.stage.proofs.Stays.{Keeps, kept_where, made_by_test}
 use Rattle.audio_agc.specs.declared.AudioAgc.{AudioAgc}
 use Rattle.audio_agc.specs.declared.AudioAgcDone.{AudioAgcDone}
 use Rattle.audio_agc.specs.State.{levels_met, LONGEST_HANG, answered}
@@ -39,7 +39,7 @@ keep_sound : (s : AudioAgc) (out gain envelope : Float) (hang : ℕ) (o : Float)
     → keep_step out (moved s gain envelope hang) ≡ kept o t → Sound audio_stage t
 unfolding keep_step
 keep_sound s out gain envelope hang o t h w e =
-    kept_by_test (Sound audio_stage) (both_finite out gain && finite envelope) out (moved s gain envelope hang)
+    kept_where (Sound audio_stage) (both_finite out gain && finite envelope) out (moved s gain envelope hang)
     (λ f.
     let parts = (and-eq-true_iff (both_finite out gain) (finite envelope)).0 f in
     let level = ((and-eq-true_iff (finite out) (finite gain)).0 parts.0).1 in

@@ -19,7 +19,7 @@ impl AudioAgc {
         ensures { (after : AudioAgc) → result ≡ Some after → Kept self «data».now after (map clamp_one z.new) }
     {
         let mut at = self;
-        // Stays: one `for` gives 0.55 of the original's speed, these loops 0.85: its envelopes each wait for a select.
+        // Stays: one `for` is slower (docs/SPEED.md), as its envelopes each wait for a select.
         let mut k = 0;
         while k < data.len() {
             while falls(data, k, at.envelope) {

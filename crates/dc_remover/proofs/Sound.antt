@@ -7,7 +7,7 @@ use Rattle.stage.specs.Floats.{both_finite}
 use Rattle.stage.specs.Settings.{in_unit}
 use Rattle.stage.specs.Refusal.{NONE, SETTING}
 use Rattle.stage.specs.Stage.{Sound}
-use Rattle.stage.proofs.Stays.{Keeps, kept_by_test, made_by_test}
+use Rattle.stage.proofs.Stays.{Keeps, kept_where, made_by_test}
 use Rattle.dc_remover.specs.declared.DcRemover.{DcRemover}
 use Rattle.dc_remover.specs.declared.DcRemoverDone.{DcRemoverDone}
 use Rattle.dc_remover.specs.Step.{mono_out, mono_after, mono_answer, pair_out, pair_after, pair_answer}
@@ -24,14 +24,14 @@ mono_sound s x h f =
 
 pub mono_keeps : Keeps mono_stage
 unfolding mono_answer
-mono_keeps s x o t h e = kept_by_test (Sound mono_stage) (both_finite (mono_out s x) (mono_after s x).avg_i) (mono_out s x) (mono_after s x) (mono_sound s x h) o t e
+mono_keeps s x o t h e = kept_where (Sound mono_stage) (both_finite (mono_out s x) (mono_after s x).avg_i) (mono_out s x) (mono_after s x) (mono_sound s x h) o t e
 
 pub pair_keeps : Keeps pair_stage
 unfolding pair_answer
 pair_keeps s p o t h e =
     let out = pair_out s p in
     let after = pair_after s p in
-    kept_by_test (Sound pair_stage) (both_finite out.0 out.1 && both_finite after.avg_i after.avg_q) out after
+    kept_where (Sound pair_stage) (both_finite out.0 out.1 && both_finite after.avg_i after.avg_q) out after
     (λ f. record { setting = h.setting; state = ((and-eq-true_iff (both_finite out.0 out.1) (both_finite after.avg_i after.avg_q)).0 f).1 }) o t e
 
 -- what one kind of call hands on the others take: they make the same demands of the state

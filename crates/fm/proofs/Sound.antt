@@ -7,7 +7,7 @@ use lib.Ieee.Scale.{finite}
 use Rattle.angle.specs.Single.{PI32}
 use Rattle.stage.specs.Floats.{both_finite}
 use Rattle.stage.specs.Stage.{Sound}
-use Rattle.stage.proofs.Stays.{Keeps, kept_by_test}
+use Rattle.stage.proofs.Stays.{Keeps, kept_where}
 use Rattle.fm.specs.State.{fresh}
 use Rattle.fm.specs.Step.{angle_of, smoothed, fm_step}
 use Rattle.fm.specs.Process.{fm_stage}
@@ -18,7 +18,7 @@ fm_keeps s p o t h e =
     let phase = angle_of p in
     let state = smoothed s phase in
     let out = div binary32 state PI32 in
-    kept_by_test (Sound fm_stage) (both_finite phase state && finite out) out _
+    kept_where (Sound fm_stage) (both_finite phase state && finite out) out _
     (λ f. record { setting = h.setting; state = ((and-eq-true_iff (both_finite phase state) (finite out)).0 f).0 }) o t e
 
 pub fresh_sound : Sound fm_stage fresh.state

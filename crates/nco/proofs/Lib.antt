@@ -1,2 +1,3 @@
--- Laws of the oscillator's calls: what a place in the slice leads to.
+-- Laws of the oscillator's calls: what a call gives by its number, and what a place in the slice leads to.
+pub mod Given
 pub mod Ahead

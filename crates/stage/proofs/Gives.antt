@@ -1,4 +1,4 @@
--- From what a call's code knows where its demands are met to what the call gives. Assumes nothing.
+-- From what a call's code knows to what the call gives: where its demands are met, and where its number refuses it. Assumes nothing.
 use Prim.Native.Nat.{ℕ, ◌/◌}
 use mathlib.Core.Path.{◌≡◌, refl, sym, ◌∙◌}
 use mathlib.Core.Bool.{true}
@@ -12,7 +12,7 @@ use Rattle.stage.specs.Lent.{Lent, interleaved}
 use Rattle.stage.specs.Stage.{Stage}
 use Rattle.stage.specs.Call.{Given, gave, refused_with, number_of, ran, call}
 use Rattle.stage.specs.Into.{number_into, call_into}
-use Rattle.stage.proofs.Refusals.{met, run_gives}
+use Rattle.stage.proofs.Refusals.{met, refused_gives, run_gives}
 use Rattle.stage.proofs.Layouts.{length_pairs}
 use Rattle.stage.proofs.LoopInterleaved.{interleaved_full}
 use Rattle.stage.proofs.Intos.{into_lengths, into_run}
@@ -24,6 +24,10 @@ module _ {A S X : Type 0} (g : Stage A A S) (l : Lent A X) (s : S) (x : X) (met_
 
   pub met_gives : {r : Given S X} → r ≡ ran g l s x → r ≡ call g l s x
   met_gives e = e ∙ run_gives (number_of g l s x) (ran g l s x) (refused_with (number_of g l s x) s x) (sym met_all)
+
+module _ {A S X : Type 0} (g : Stage A A S) (l : Lent A X) (s : S) (x : X) (n : ℕ) (is : n ≡ number_of g l s x) where
+  pub gives_refused : (n ≡ NONE → ⊥) → refused_with n s x ≡ call g l s x
+  gives_refused h = rw is (refused_gives (number_of g l s x) (ran g l s x) (refused_with (number_of g l s x) s x) (λ z. h (is ∙ z)))
 
 -- ---- where one of the runs of `runs.rt` is the work: it left `left`, at the state t with k struck
 module _ {F S : Type 0} where

@@ -1,4 +1,4 @@
--- Calls that put outputs into another slice: from what the code knows where the demands are met to what the call gives. Assumes nothing.
+-- Calls that put outputs into another slice: from what the code knows on each of its two ways to what the call gives. Assumes nothing.
 use Prim.Native.Nat.{ℕ, zero, suc, ◌/◌, ◌≤◌}
 use mathlib.Core.Path.{◌≡◌, refl, sym, ◌∙◌}
 use mathlib.Core.Bool.{true}
@@ -12,11 +12,16 @@ use Rattle.stage.specs.Run.{outs, end, strikes}
 use Rattle.stage.specs.Layout.{pairs, over}
 use Rattle.stage.specs.Stage.{Stage}
 use Rattle.stage.specs.Into.{Put, refused_put, number_into, ran_into, call_into}
-use Rattle.stage.proofs.Refusals.{met, run_gives}
+use Rattle.stage.proofs.Refusals.{met, refused_gives, run_gives}
 
 module _ {F S : Type 0} (g : Stage (F × F) F S) where
   -- ---- from the code
   module _ (s : S) (input output : List F) (n : ℕ) (is : n ≡ number_into g s (length input) (length output)) where
+    pub into_refused : (n ≡ NONE → ⊥) → refused_put n s output ≡ call_into g s input output
+    into_refused h =
+        let number = number_into g s (length input) (length output) in
+        rw is (refused_gives number (ran_into g s input output) (refused_put number s output) (λ z. h (is ∙ z)))
+
     pub into_run : (t : S) (k : ℕ) (left : List F) → n ≡ NONE → left ≡ over (outs g.step g.silence s (pairs input)) output
         → t ≡ end g.step s (pairs input) → k ≡ strikes g.step s (pairs input)
         → record { refusal = NONE; state = t; count = length input / 2; struck = k; left = left } ≡ call_into g s input output

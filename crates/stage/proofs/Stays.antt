@@ -5,7 +5,7 @@ use mathlib.Core.Path.{◌≡◌, refl, sym, ◌∙◌, subst}
 use mathlib.Core.Bool.{Bool, true, false, cond}
 use mathlib.Core.List.{List, [], ◌∷◌}
 use Rattle.stage.specs.Refusal.{NONE, SETTING, STATE, refusal_no}
-use Rattle.stage.specs.Run.{struck, kept}
+use Rattle.stage.specs.Run.{Answer, struck, kept}
 use Rattle.stage.specs.Lent.{Lent}
 use Rattle.stage.specs.Stage.{Stage, Sound}
 use Rattle.stage.specs.Call.{call}
@@ -18,11 +18,16 @@ use Rattle.stage.proofs.Calls.{call_number, call_ran}
 abbrev pub Keeps : {A B S : Type 0} → Stage A B S → Type 0
 Keeps {A} {B} {S} g = (s : S) (x : A) (o : B) (t : S) → Sound g s → g.step s x ≡ kept o t → Sound g t
 
--- a step that keeps its sample where a test passes, and strikes it else: what holds of the state where it passes, holds of any state kept
-pub kept_by_test : {B S : Type 0} (P : S → Type 0) (test : Bool) (o : B) (t : S) → (test ≡ true → P t)
+-- a step that keeps its sample where a test passes, and strikes it else, whatever its answers are made of: what holds of the state where it passes, holds of any state kept
+pub kept_by_test : {C B S : Type 0} (P : S → Type 0) (means : C → Answer B S) (test : Bool) (keep strike : C) (o : B) (t : S) → means keep ≡ kept o t → means strike ≡ struck
+    → (test ≡ true → P t) → (o' : B) (t' : S) → means (cond test keep strike) ≡ kept o' t' → P t'
+kept_by_test P means true keep strike o t k d p o' t' e = let same : t ≡ t' = cc in subst P same (p refl)
+kept_by_test P means false keep strike o t k d p o' t' e = let z : ◌≡◌ {A = ℕ} 0 1 = cc in absurd (omega arith)
+
+-- the same of a step whose answers are what they mean
+pub kept_where : {B S : Type 0} (P : S → Type 0) (test : Bool) (o : B) (t : S) → (test ≡ true → P t)
     → (o' : B) (t' : S) → cond test (kept o t) struck ≡ kept o' t' → P t'
-kept_by_test P true o t p o' t' e = let same : t ≡ t' = cc in subst P same (p refl)
-kept_by_test P false o t p o' t' e = let z : ◌≡◌ {A = ℕ} 0 1 = cc in absurd (omega arith)
+kept_where P test o t = kept_by_test P (λ a. a) test (kept o t) struck o t refl refl
 
 -- a making call that gives one answer where a test passes, and SETTING else: what holds of the state where it passes, holds wherever the call is not refused
 pub made_by_test : {R S : Type 0} (refusal : R → ℕ) (state : R → S) (P : S → Type 0) (test : Bool) (made refused : R) → refusal refused ≡ SETTING

@@ -10,7 +10,7 @@ use std::num::{f32_from_bits_with_nan, f32_to_bits_with_nan};
 const STAYS: usize = 0xFFFF_FFFF;
 
 // The most places of a first slice, two more than the limit, and of any other.
-const FIRST: usize = 262146;
+pub const FIRST: usize = 262146;
 
 const OTHER: usize = 1024;
 
@@ -49,16 +49,20 @@ impl<'a> Told<'a> {
 
     // The slice before the call. One that is longer than `most` is cut there, and then it disagrees.
     fn floats(&self, alloc: Global, most: usize) -> Result<Vec<f32>, AllocError> {
-        (0..self.length.min(most))
-            .map(|i| f32_from_bits_with_nan(at(self.before, i)))
-            .collect(alloc)
+        let mut floats = vec![in alloc; 0.0; self.length.min(most)]?;
+        for (float, word) in floats.as_mut_slice().iter_mut().zip(self.before) {
+            *float = f32_from_bits_with_nan(*word);
+        }
+        Ok(floats)
     }
 
     // The same of bytes: of each word the lowest.
     pub fn bytes(&self, alloc: Global) -> Result<Vec<u8>, AllocError> {
-        (0..self.length.min(FIRST))
-            .map(|i| (at(self.before, i) % 256) as u8)
-            .collect(alloc)
+        let mut bytes = vec![in alloc; 0; self.length.min(FIRST)]?;
+        for (byte, word) in bytes.as_mut_slice().iter_mut().zip(self.before) {
+            *byte = (*word % 256) as u8;
+        }
+        Ok(bytes)
     }
 
     // Whether the slice is as long as the file tells, and every place of it holds what the file tells after the call.
@@ -84,9 +88,10 @@ impl<'a> Five<Told<'a>> {
         }
     }
 
-    pub fn floats(&self, alloc: Global) -> Result<Five<Vec<f32>>, AllocError> {
+    // The first slice is cut at `first` places.
+    pub fn floats(&self, alloc: Global, first: usize) -> Result<Five<Vec<f32>>, AllocError> {
         Ok(Five {
-            first: self.first.floats(alloc, FIRST)?,
+            first: self.first.floats(alloc, first)?,
             second: self.second.floats(alloc, OTHER)?,
             third: self.third.floats(alloc, OTHER)?,
             fourth: self.fourth.floats(alloc, OTHER)?,

@@ -21,36 +21,55 @@ mod sidebands;
 mod tally;
 mod words;
 
-use std::io::Read;
+ghost use Rattle.std.specs.Prelude.{◌≤◌, IfOk, vec_len};
+
+use std::alloc::AllocError;
+use std::io::{ErrorKind, Read};
 use std::rt::Files;
 use std::{fs, io};
 
 // The most bytes that are read of either file. What stands past them is left out.
-const NAMES: u64 = 4096;
+const NAMES: usize = 4096;
 
-const ANSWERS: u64 = 262144;
+const ANSWERS: usize = 262144;
 
 fn main(rt: HostRuntime) {
-    let names = load(&rt, "calls.txt", NAMES);
-    let file = load(&rt, "answers.txt", ANSWERS);
-    if let Err(error) = tally::tell(&rt, names.as_slice(), file.as_slice()) {
-        let _ = fail(&rt, "replay", error.into());
+    if replay_files(&rt).is_err() {
+        let _ = rt.eprintln("replay: out of memory");
     }
 }
 
-// The bytes of a file. One that cannot be opened is told on descriptor 2, and has none.
-fn load(rt: &(impl Files + Eprint + AllocGlobal), path: &str, most: u64) -> Vec<u8> {
-    let mut bytes = Vec::new(rt.alloc());
+fn replay_files(rt: &(impl Files + Print + Eprint + AllocGlobal)) -> Result<(), AllocError> {
+    let names = load(rt, "calls.txt", NAMES)?;
+    let file = load(rt, "answers.txt", ANSWERS)?;
+    tally::tell(rt, names.as_slice(), file)
+}
+
+// The bytes of a file, `most` at most. One that cannot be opened is told on descriptor 2, and has none. Room is made for all of them
+// first, since a vector that grows takes twice as much.
+fn load(
+    rt: &(impl Files + Eprint + AllocGlobal),
+    path: &str,
+    most: usize,
+) -> Result<Vec<u8>, AllocError>
+    ensures { IfOk result (λ bytes. vec_len bytes ≤ most) }
+{
+    let mut bytes = Vec::with_capacity(rt.alloc(), most)?;
     match fs::open(rt, path) {
         Ok(file) => {
-            // Where a read fails, the bytes before it are what there is.
-            let _ = file.take(most).read_to_end(&mut bytes);
+            // Where a read fails, the bytes before it are what there is. Where memory runs out, there is more.
+            if let Err(error) = file.take(most as u64).read_to_end(&mut bytes) {
+                if error.kind() == ErrorKind::OutOfMemory {
+                    return Err(AllocError);
+                }
+            }
+            bytes.truncate(most);
         }
         Err(error) => {
             let _ = fail(rt, path, error);
         }
     }
-    bytes
+    Ok(bytes)
 }
 
 // A line on descriptor 2: what failed, and why.

@@ -39,7 +39,11 @@ impl fmt::Display for Tally {
 }
 
 // Runs every case of the file and tells the sums, each after its name. A line that cannot be written is left out.
-pub fn tell(rt: &(impl Print + AllocGlobal), names: &[u8], file: &[u8]) -> Result<(), AllocError> {
+pub fn tell(
+    rt: &(impl Print + AllocGlobal),
+    names: &[u8],
+    file: Vec<u8>,
+) -> Result<(), AllocError> {
     let tallies = tallies(rt.alloc(), file)?;
     for (name, tally) in names.chunks_exact(NAME).zip(tallies.iter()) {
         if tally.cases > 0 {
@@ -56,13 +60,15 @@ fn line(rt: &impl Print, name: &[u8], tally: Tally) {
     let _ = rt.println(tally);
 }
 
-// A case ends where the next one begins.
-fn tallies(alloc: Global, file: &[u8]) -> Result<[Tally; LINES], AllocError> {
-    let words = words(alloc, file)?;
+// A case ends where the next one begins. The file's bytes are let go once its words are there.
+fn tallies(alloc: Global, file: Vec<u8>) -> Result<[Tally; LINES], AllocError> {
+    let whole_words = file.len() / WORD;
+    let words = words(alloc, file.as_slice())?;
+    drop(file);
     let mut tallies = [Tally::default(); LINES];
     let mut at = 0;
     for _ in 0..CASES {
-        if at >= file.len() / WORD {
+        if at >= whole_words {
             break;
         }
         let case = Case::read(words.get(at..).unwrap_or(&[]));

@@ -1,4 +1,6 @@
 // The words of a file: eight hexadecimal digits each, and one byte after them.
+ghost use Rattle.std.specs.Prelude.{◌≤◌};
+
 use std::alloc::{AllocError, Global};
 use std::array;
 
@@ -21,7 +23,9 @@ fn word(bytes: &[u8]) -> u32 {
 
 // Of a digit or a capital letter; 0 for any other byte.
 // Stays: `to_digit` would take small letters too, and the program has always read them as 0.
-fn digit(byte: u8) -> u32 {
+fn digit(byte: u8) -> u32
+    ensures { result ≤ 15 }
+{
     match byte {
         b'0'..=b'9' => u32::from(byte - b'0'),
         b'A'..=b'F' => u32::from(byte - b'A' + 10),
