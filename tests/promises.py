@@ -3,7 +3,8 @@
 # - every file and every name that a table of the page gives exists, the name as a declaration in its file;
 # - every public function of every library crate is in a table, and nothing else stands under "Call" and "C name";
 # - the contract of each names the definition that the table gives, and asks nothing of the caller;
-# - a theorem says of the contract of each that no second answer meets it, and the table gives that theorem;
+# - a theorem says of the contract of each that no second answer meets it, with no premise, and the table gives that theorem;
+# - each method of a trait has its clauses in the trait, and no body there;
 # - what the table gives for demand 1 is stated over the call's own definition.
 # `tests/promises.py --plants` plants an error of each kind in a copy and sees each found.
 import os
@@ -55,15 +56,23 @@ def mangled(type_):
     return head[:1].upper() + head[1:] + ''.join(map(mangled, arguments))
 
 
-# the clauses of each method of each trait of the repository; None where the trait gives it a body
-def clauses_of_traits():
-    found = {}
+# the names of the repository's traits, and the clauses of each method of each; None where the trait gives it a body
+def traits():
+    named, clauses = set(), {}
     for crate in sorted(os.listdir('crates')):
         for file in sorted(os.listdir('crates/%s/src' % crate)):
-            for trait, body in re.findall(r'^pub trait (\w+)[^\n]*\{\n(.*?)^\}', read('crates/%s/src/%s' % (crate, file)), re.M | re.S):
-                for name, clauses, ended in re.findall(r'^    (?:final )?fn (\w+)(.*?)(;$|\{$|^    \{)', body, re.M | re.S):
-                    found[trait, name] = clauses if ended == ';' else None
-    return found
+            text = re.sub(r'//.*', '', read('crates/%s/src/%s' % (crate, file)))
+            named |= set(re.findall(r'^\s*(?:pub(?:\([a-z]+\))? )?trait (\w+)', text, re.M))
+            for trait, body in re.findall(r'^pub trait (\w+)[^{]*\{(.*?)^\}', text, re.M | re.S):
+                # a clause's braces go, so that a brace that is left opens a body
+                for name, words, ended in re.findall(r'\bfn (\w+)([^;{]*)([;{])', bare(body), re.S):
+                    clauses[trait, name] = words.replace('~', '') if ended == ';' else None
+    return named, clauses
+
+
+# a trait's body with the braces of its clauses written as `~`
+def bare(body):
+    return re.sub(r'((?:requires|ensures|ghost)\b[^{;]*)\{([^{}]*)\}', r'\1~\2~', body)
 
 
 # each `pub fn` of a file and each method of a trait's `impl`, with the `impl` that it stands in and its contract
@@ -87,6 +96,7 @@ def declared(text):
 
 
 def public_functions(crate, of_traits):
+    named, clauses_of = of_traits
     src = 'crates/%s/src' % crate
     root = read(src + '/lib.rt')
     modules = set(re.findall(r'^pub mod (\w+);', root, re.M))
@@ -103,7 +113,8 @@ def public_functions(crate, of_traits):
                     place = crate if here == 'lib' else crate + '.' + here
                     module = '%s.%s%s.%s' % (place, mangled(impl), mangled(trait), name)
                     # a trait of the library has clauses of its own, in the words of the ghost members
-                    clauses = of_traits.get((trait.partition('<')[0], name), 'ensures' if contract else '') or ''
+                    of = trait.partition('<')[0]
+                    clauses = clauses_of.get((of, name)) or '' if of in named else 'ensures' if contract else ''
                     yield Function('<%s as %s>::%s' % (impl, trait, name), module, clauses, contract)
             elif impl in types:
                 yield Function(impl + '::' + name, '%s.%s.%s' % (crate, impl, name), contract)
@@ -124,8 +135,8 @@ def libraries():
 
 # what a theorem of no second answer says: of a contract as it stands, or, of a function over any type, of that contract
 # with all that the type brings. A premise, or an argument of its own choice, would make it say less
-PLAIN = r'^pub ([\w-]+) : NoSecond (\S+)\.ended (\S+)\.Reads\.Learnt$'
-OF_ANY_TYPE = r'^pub ([\w-]+) : \(([\w ]+) : _\) → NoSecond \((\S+)\.ended ([\w ]+)\) \((\S+)\.Reads\.Learnt ([\w ]+)\)$'
+PLAIN = r'^pub ([\w-]+) : NoSecond (\S+)\.ended (\S+)\.Reads\.Learnt\n(?! )'
+OF_ANY_TYPE = r'^pub ([\w-]+) : \(([\w ]+) : _\) → NoSecond \((\S+)\.ended ([\w ]+)\) \((\S+)\.Reads\.Learnt ([\w ]+)\)\n(?! )'
 
 
 # each theorem of no second answer: its name, the two names of the contract, and whether it is of any type
@@ -136,7 +147,8 @@ def said(text):
         brought, ended_of = brought.split(), ended_of.split()
         rest = iter(brought)
         in_order = all(name in rest for name in ended_of)
-        if len(set(brought)) == len(brought) and learnt_of.split() == brought and in_order:
+        heads = {'NoSecond', ended.partition('.')[0], learnt.partition('.')[0]}
+        if len(set(brought)) == len(brought) and not heads & set(brought) and learnt_of.split() == brought and in_order:
             yield theorem, ended, learnt, True
 
 
@@ -261,9 +273,9 @@ def faults(functions):
 
 
 def checked():
-    of_traits = clauses_of_traits()
+    of_traits = traits()
     functions = {f.name: f for crate in libraries() for f in public_functions(crate, of_traits)}
-    bodies = ['%s::%s has a body in its trait, and no row speaks of that' % key for key, clauses in of_traits.items() if clauses is None]
+    bodies = ['%s::%s has a body in its trait, and no row speaks of that' % key for key, clauses in of_traits[1].items() if clauses is None]
     return functions, list(faults(functions)) + bodies
 
 
@@ -289,6 +301,9 @@ PLANTS = [
     ('crates/stage/src/runs.rt', r'\n *ensures { answer_of result ≡ answer self x };', ';', 'Feedback<f32, f32>>::step has no ensures'),
     ('crates/number/src/kinds.rt', r'ensures { result ≡ value self };', ';', '<f32 as Real>::wide has no ensures'),
     ('crates/stage/src/runs.rt', r'(fn step\(self, x: X\) -> Option<\(Y, Self\)>\n[^\n]*);', r'\1\n    { None }', 'Feedback::step has a body'),
+    ('crates/number/src/kinds.rt', r'fn wide\(self\) -> f64\n[^\n]*;', 'fn wide(self) -> f64 { 0.0 }', 'Real::wide has a body'),
+    ('crates/stage/src/runs.rt', r'pub trait Feedback<X, Y>: Copy \{((?:.|\n)*?)\n *ensures { answer_of result ≡ answer self x };', r'pub trait Feedback<X, Y>\nwhere\n    Self: Copy,\n{\1;', 'Feedback<f32, f32>>::step has no ensures'),
+    (THEOREMS + '/OnlyC.antt', r'(pub tl_agc_new : .*)\n', r'\1\n  → Unit\n', 'the contract of tl_agc_new'),
 ]
 
 

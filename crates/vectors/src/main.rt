@@ -45,8 +45,7 @@ fn replay_files(rt: &(impl Files + Print + Eprint + AllocGlobal)) -> Result<(), 
     tally::tell(rt, names.as_slice(), file)
 }
 
-// The bytes of a file, `most` at most. One that cannot be opened is told on descriptor 2, and has none. Room is made for all of them
-// first, since a vector that grows takes twice as much.
+// The bytes of a file, `most` at most. One that cannot be opened is told on descriptor 2, and has none.
 fn load(
     rt: &(impl Files + Eprint + AllocGlobal),
     path: &str,
@@ -54,9 +53,13 @@ fn load(
 ) -> Result<Vec<u8>, AllocError>
     ensures { IfOk result (λ bytes. vec_len bytes ≤ most) }
 {
-    let mut bytes = Vec::with_capacity(rt.alloc(), most)?;
+    let mut bytes = Vec::new(rt.alloc());
     match fs::open(rt, path) {
         Ok(file) => {
+            // Room for the most that is read first, since a vector that grows takes twice as much; none for an empty file.
+            if fs::metadata(rt, path).is_ok_and(|about| about.len() > 0) {
+                bytes.try_reserve(most)?;
+            }
             // Where a read fails, the bytes before it are what there is. Where memory runs out, there is more.
             if let Err(error) = file.take(most as u64).read_to_end(&mut bytes) {
                 if error.kind() == ErrorKind::OutOfMemory {
