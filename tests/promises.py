@@ -95,8 +95,7 @@ def declared(text):
             yield found.group(2), impl, None, '\n'.join(lines[i:end])
 
 
-def public_functions(crate, of_traits):
-    named, clauses_of = of_traits
+def public_functions(crate, named, clauses_of):
     src = 'crates/%s/src' % crate
     root = read(src + '/lib.rt')
     modules = set(re.findall(r'^pub mod (\w+);', root, re.M))
@@ -273,9 +272,9 @@ def faults(functions):
 
 
 def checked():
-    of_traits = traits()
-    functions = {f.name: f for crate in libraries() for f in public_functions(crate, of_traits)}
-    bodies = ['%s::%s has a body in its trait, and no row speaks of that' % key for key, clauses in of_traits[1].items() if clauses is None]
+    named, clauses_of = traits()
+    functions = {f.name: f for crate in libraries() for f in public_functions(crate, named, clauses_of)}
+    bodies = ['%s::%s has a body in its trait, and no row speaks of that' % key for key, clauses in clauses_of.items() if clauses is None]
     return functions, list(faults(functions)) + bodies
 
 
